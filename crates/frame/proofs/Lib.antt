@@ -1,0 +1,4 @@
+pub mod Front
+pub mod Run
+pub mod Puts
+pub mod Sizes
