@@ -264,7 +264,7 @@ def wrong_lengths(cases: Cases) -> None:
         front, back = joined(parts[:at]), joined(parts[at + 1 :])
         longest = 22 if tag == 5 else 19 if tag == 7 else 6
         for length in [*range(longest), 260]:
-            cases.frame(front + field(tag, bytes(at % 256 for at in range(1, 1 + length))) + back)
+            cases.frame(front + field(tag, bytes(count % 256 for count in range(1, 1 + length))) + back)
         for length in (0, 1, 2, 4, 16, 20, 256, 65535):
             cases.frame(front + field(tag, b"", length))
     # A length whose two bytes are exchanged.
