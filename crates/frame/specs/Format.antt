@@ -78,6 +78,14 @@ yearNamed p = word (p .when) 0
 abbrev pub dayNamed : Parts → ℕ
 dayNamed p = word (p .when) 2
 
+abbrev pub numberIn : Option (List ℕ) → Option ℕ
+numberIn None = None
+numberIn (Some bs) = Some (word bs 0)
+
+-- the share that a frame names, in thousandths
+abbrev pub shareNamed : Parts → Option ℕ
+shareNamed p = numberIn (p .share)
+
 -- what writing these parts into a buffer of that room answers: the frame's length, or a refusal
 unfoldable pub writeAnswers : Parts → ℕ → Result ℕ Refusal
 writeAnswers p room =

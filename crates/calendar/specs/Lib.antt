@@ -1,0 +1,4 @@
+pub mod Calendar
+pub mod Months
+pub mod Faults
+pub mod Laws

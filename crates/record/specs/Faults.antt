@@ -1,0 +1,17 @@
+-- The layer, the number and the place of each fault; a lower layer's is passed on whole.
+use Rattle.refusal.specs.declared.Refusal.{Refusal}
+use Rattle.refusal.specs.declared.Layer.the-variants.{Record}
+use Rattle.refusal.specs.Said.{refusal}
+use Rattle.frame.specs.Faults as frame
+use Rattle.calendar.specs.Faults as calendar
+use Rattle.reading.specs.Refusals as reading
+use Rattle.record.specs.declared.fault.RecordFault.{RecordFault}
+use Rattle.record.specs.declared.fault.RecordFault.the-variants.{Frame, Date, KindUnknown, TierUnknown, Readings, ShareWrong}
+
+abbrev pub refusalOf : RecordFault → Refusal
+refusalOf (Frame e) = frame.refusalOf e
+refusalOf (Date e) = calendar.refusalOf e
+refusalOf KindUnknown = refusal Record 7 0
+refusalOf TierUnknown = refusal Record 8 0
+refusalOf (Readings e) = reading.refusalOf e
+refusalOf ShareWrong = refusal Record 10 0

@@ -1,0 +1,21 @@
+// The record layer: what a meter's frame records, read from a frame and written as one.
+// A record is lawful by its type; a raw record is what a host states, lawful or not.
+mod fault;
+mod heading;
+mod kind;
+mod raw;
+mod reader;
+mod record;
+mod tier;
+
+pub use fault::RecordFault;
+pub use fault::RecordFaultDebug;
+pub use fault::RecordFaultPartialEq;
+pub use kind::Carbonate;
+pub use kind::Fuel;
+pub use kind::Heat;
+pub use kind::Kind;
+pub use raw::RawRecord;
+pub use reader::read;
+pub use record::Record;
+pub use tier::Tier;
