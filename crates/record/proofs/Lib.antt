@@ -1,2 +1,4 @@
 pub mod Chain
 pub mod Reading
+pub mod Lawful
+pub mod Writing

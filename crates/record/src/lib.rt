@@ -7,6 +7,7 @@ mod raw;
 mod reader;
 mod record;
 mod tier;
+mod writer;
 
 pub use fault::RecordFault;
 pub use fault::RecordFaultDebug;
@@ -19,3 +20,4 @@ pub use raw::RawRecord;
 pub use reader::read;
 pub use record::Record;
 pub use tier::Tier;
+pub use writer::write;
