@@ -9,7 +9,6 @@ use lib.Dec.{T, eqb, eqb→eq}
 use lib.ListN.{length, getD, take, drop, take-append-drop, length-take, length-drop}
 use lib.Seq.{drop-drop}
 use lib.Ieee.{Float, binary32, fits, toBits}
-use Rattle.std.specs.declared.option.Option.{Option}
 use Rattle.std.specs.declared.option.Option.the-variants.{Some, None}
 use Rattle.std.specs.shelf.Lists.{All}
 use Rattle.std.proofs.shelf.Elements.{all-getD}
@@ -115,3 +114,13 @@ all-bytes (r ∷ rs) =
 pub written : Written
 unfolding setBytes
 written set k h = all-getD (λ b. b < 256) (joined (readingsOf set)) k 0 h (all-bytes (readingsOf set))
+
+-- ---- at a call
+
+-- what a call that wrote a set gives
+pub wrote : (set : ReadingSet) (bs : List ℕ) → bs ≡ setBytes set → Held set → setIn (shapeOf set) bs ≡ Some set
+wrote set bs e h = ap (setIn (shapeOf set)) e ∙ written-back set h
+
+-- what a call that read a set gives
+pub was-read : (shape : Shape) (bs : List ℕ) (set : ReadingSet) → Bytes bs → Some set ≡ setIn shape bs → T (lawfulSet set) → setBytes set ≡ bs
+was-read shape bs set bytes e t = read-back shape bs set bytes (sym e) t

@@ -5,7 +5,7 @@ use Prim.Native.Nat.{ℕ, _*_, _≤_}
 use lib.Dec.{T, lit≤}
 use lib.Ieee.{Float}
 use lib.Ieee.Fits.{and-l, and-r}
-use Rattle.rounding.specs.Nearest.{nearest, Nearest}
+use Rattle.rounding.specs.Nearest.{Nearest}
 use Rattle.rounding.proofs.Laws as rounding
 use Rattle.reading.specs.Dyadic.{over, under}
 use Rattle.reading.specs.Limited.{Limited, amount, temperature, pressure, volume, oxygen, kept, allKept, readingsOf, lawfulSet}
@@ -52,19 +52,19 @@ module _ (set : ReadingSet) (lawful : T (lawfulSet set)) where
   amount-counts x a e p = ap AmountOf (p (lit≤ tt) (at (Amount x) e .0)) ∙ ap quantitiesOf (sym e)
 
   pub water-counts : (w : WaterReadings) (a b : ℕ) → set ≡ Water w → Counts (amount (w .kilograms)) a → Counts (temperature (w .celsius)) b
-    → WaterOf (record { kilograms = a; hundredths = b }) ≡ quantitiesOf set
+      → WaterOf (record { kilograms = a; hundredths = b }) ≡ quantitiesOf set
   water-counts w a b e p q =
       let k = at (Water w) e in
       (λ i. WaterOf (record { kilograms = p (lit≤ tt) (k .0) i; hundredths = q (lit≤ tt) (k .1 .0) i })) ∙ ap quantitiesOf (sym e)
 
   pub steam-counts : (s : SteamReadings) (a b : ℕ) → set ≡ Steam s → Counts (amount (s .kilograms)) a → Counts (pressure (s .kilopascals)) b
-    → SteamOf (record { kilograms = a; kilopascals = b }) ≡ quantitiesOf set
+      → SteamOf (record { kilograms = a; kilopascals = b }) ≡ quantitiesOf set
   steam-counts s a b e p q =
       let k = at (Steam s) e in
       (λ i. SteamOf (record { kilograms = p (lit≤ tt) (k .0) i; kilopascals = q (lit≤ tt) (k .1 .0) i })) ∙ ap quantitiesOf (sym e)
 
   pub wastewater-counts : (w : WastewaterReadings) (a b c d f : ℕ) → set ≡ Wastewater w → Counts (volume (w .«cubic_metres»)) a → Counts (oxygen (w .inlet)) b → Counts (oxygen (w .outlet)) c → Counts (amount (w .sludge)) d → Counts (amount (w .recovered)) f
-    → WastewaterOf (record { «cubic_metres» = a; inlet = b; outlet = c; sludge = d; recovered = f }) ≡ quantitiesOf set
+      → WastewaterOf (record { «cubic_metres» = a; inlet = b; outlet = c; sludge = d; recovered = f }) ≡ quantitiesOf set
   wastewater-counts w a b c d f e p q r s t =
       let k = at (Wastewater w) e in
       (λ i. WastewaterOf (record {

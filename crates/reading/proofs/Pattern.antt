@@ -3,12 +3,11 @@ use mathlib.Core.Path.{_≡_, refl, sym, ap, _∙_, subst}
 use mathlib.Core.Bool.{Bool, true, false, cond, true≢false}
 use Prim.Native.Nat.{ℕ, zero, suc, _+_, _-_, _*_, _/_, _%_, _^_, _≤_, _<_}
 use native.Mathlib.Omega.{arith}
-use lib.Dec.{T, ltb, leb, eqb}
-use borrow.Author.Tests.{lt-ltb, le-ltb, le-leb, lt-leb, eq-eqb, ne-eqb}
+use lib.Dec.{leb, eqb}
+use borrow.Author.Tests.{lt-ltb, le-ltb, lt-leb, ne-eqb}
 use mathlib.Core.Logic.{inl, inr}
 use Rattle.std.proofs.shelf.Ways.{leb-tells}
-use lib.Ieee.{Float, nan, inf, fin, binary32, odd, ofBits, ofFields, toBits, fits}
-use lib.Ieee.Bits.{ofBits-toBits, toBits-lt}
+use lib.Ieee.{Float, nan, inf, fin, binary32, odd, ofBits, ofFields}
 use lib.Ieee.Exact.{HasValue, odd-sign}
 use Rattle.reading.specs.Dyadic.{over, under, clear}
 use Rattle.reading.specs.Fields.{steps, Meaning}

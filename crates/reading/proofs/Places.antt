@@ -1,5 +1,5 @@
 -- Four bytes in a list: read at a place, written at the end of what is filled.
-use mathlib.Core.Path.{_≡_, refl, sym, ap, _∙_}
+use mathlib.Core.Path.{_≡_, sym, ap, _∙_}
 use mathlib.Core.Logic.{_≢_}
 use mathlib.Core.List.{List, [], _∷_, _++_, append-assoc}
 use mathlib.Core.Bool.{Bool, cond}
@@ -10,12 +10,10 @@ use borrow.Author.Tests.{eq-eqb, ne-eqb}
 use lib.ListN.{length, getD, take, drop, set, length-set}
 use lib.Seq.{getD-take, getD-drop, take-suc-set}
 use lib.Ieee.{Float, binary32, ofBits}
-use Rattle.std.specs.declared.option.Option.{Option}
 use Rattle.std.specs.declared.option.Option.the-variants.{Some, None}
 use Rattle.reading.specs.Wire.{decode, encode}
 use Rattle.reading.specs.Layout.{count, setOf, setIn}
 use Rattle.reading.specs.declared.sets.Shape.{Shape}
-use Rattle.reading.specs.declared.sets.ReadingSet.{ReadingSet}
 
 pub byte-at : (bs : List ℕ) (n k : ℕ) → k < 4 → getD (take 4 (drop n bs)) k 0 ≡ getD bs (n + k) 0
 byte-at bs n k h = rw (getD-take, getD-drop)

@@ -1,19 +1,16 @@
 -- A reading to its four bytes and back.
-use mathlib.Core.Path.{_≡_, refl, sym, ap, _∙_, subst}
-use mathlib.Core.Bool.{Bool, true, false, not, _&&_}
+use mathlib.Core.Path.{_≡_, sym, ap, _∙_}
+use mathlib.Core.Bool.{not}
 use mathlib.Core.List.{List, [], _∷_}
-use Prim.Native.Nat.{ℕ, zero, suc, _+_, _-_, _*_, _/_, _%_, _^_, _≤_, _<_}
+use Prim.Native.Nat.{ℕ, _+_, _-_, _*_, _/_, _%_, _^_, _<_}
 use native.Mathlib.Nat.{div-div-eq-div-mul}
 use native.Mathlib.Omega.{arith}
-use lib.Dec.{T, eqb, eqb→eq}
-use lib.IntN.{ℤ}
-use lib.Ieee.Fits.{and-l, down-pos}
-use lib.Ieee.Nearest.{div-same}
+use lib.Dec.{T}
 use lib.ListN.{length, getD}
-use lib.Ieee.{Float, nan, inf, fin, binary32, fits, isNan, ofBits, toBits, eq, up, down, size}
+use lib.Ieee.{Float, nan, inf, fin, binary32, fits, isNan, ofBits, toBits}
 use lib.Ieee.Bits.{ofBits-toBits, toBits-ofBits, toBits-lt}
 use Rattle.reading.specs.Dyadic.{clear}
-use Rattle.reading.specs.Wire.{word, decode, encode}
+use Rattle.reading.specs.Wire.{decode, encode}
 
 digits : (n : ℕ) → n < 2 ^ 32 → n / 16777216 % 256 * 16777216 + n / 65536 % 256 * 65536 + n / 256 % 256 * 256 + n % 256 ≡ n
 digits n h =
@@ -30,7 +27,7 @@ number nan c = absurd c
 number (inf s) c = tt
 number (fin s m e) c = tt
 
-abbrev Bytes4 : ℕ → ℕ → ℕ → ℕ → Type 0
+abbrev pub Bytes4 : ℕ → ℕ → ℕ → ℕ → Type 0
 Bytes4 a b c d = (a < 256) × (b < 256) × (c < 256) × (d < 256)
 
 at-3 : (a b c d : ℕ) → Bytes4 a b c d → (a * 16777216 + b * 65536 + c * 256 + d) / 16777216 % 256 ≡ a

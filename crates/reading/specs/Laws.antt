@@ -7,8 +7,6 @@ use lib.Dec.{T}
 use lib.ListN.{length}
 use lib.Ieee.{binary32, ofBits}
 use Rattle.std.specs.declared.option.Option.the-variants.{Some}
-use Rattle.rounding.specs.Nearest.{nearest}
-use Rattle.reading.specs.Dyadic.{over, under, lawful}
 use Rattle.reading.specs.Limited.{lawfulSet, amount, temperature, kept}
 use Rattle.reading.specs.Quantity.{quantityOf}
 use Rattle.reading.specs.Layout.{shapeOf, count, setIn, setBytes, Held, Bytes}

@@ -1,5 +1,4 @@
 -- The quantities of a set: of each reading the nearest whole number.
-use mathlib.Core.Path.{_≡_}
 use mathlib.Core.List.{List, [], _∷_}
 use Prim.Native.Nat.{ℕ, _*_}
 use Rattle.std.specs.declared.result.Result.{Result}
@@ -7,7 +6,7 @@ use Rattle.std.specs.declared.result.Result.the-variants.{Ok, Err}
 use Rattle.refusal.specs.declared.Refusal.{Refusal}
 use Rattle.rounding.specs.Nearest.{nearest, Nearest}
 use Rattle.reading.specs.Dyadic.{over, under}
-use Rattle.reading.specs.Limited.{Limited, amount, temperature, pressure, volume, oxygen, checkedSet}
+use Rattle.reading.specs.Limited.{Limited, amount, temperature, pressure, volume, oxygen}
 use Rattle.reading.specs.declared.sets.ReadingSet.{ReadingSet}
 use Rattle.reading.specs.declared.sets.ReadingSet.the-variants.{Amount, Water, Steam, Wastewater}
 use Rattle.reading.specs.declared.sets.Quantities.{Quantities}

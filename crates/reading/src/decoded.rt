@@ -8,7 +8,10 @@ use crate::sets::Water;
 ghost use mathlib.Core.Path.{_≡_};
 ghost use Prim.Native.Nat.{_+_, _*_, _≤_};
 ghost use lib.ListN.{length};
-ghost use Rattle.reading.specs.Layout.{count, readingAt, setIn, shapeOf};
+ghost use lib.Dec.{T};
+ghost use Rattle.std.specs.Options.{Cases as BySome};
+ghost use Rattle.reading.specs.Limited.{lawfulSet};
+ghost use Rattle.reading.specs.Layout.{count, readingAt, setBytes, setIn, shapeOf};
 
 impl Shape {
     // How many bytes a set of this shape takes.
@@ -46,7 +49,8 @@ impl ReadingSet {
 
     // The set of this shape that the bytes hold, unless their number is wrong.
     pub fn read(shape: Shape, bytes: &[u8]) -> Option<ReadingSet>
-        ensures { λ r. ⌜ r ≡ setIn shape (now (bytes .entry)) ⌝ }
+        ensures value { λ r. ⌜ r ≡ setIn shape (now (bytes .entry)) ⌝ }
+        ensures back { λ r. ⌜ BySome r (Unit {0}) (λ set. T (lawfulSet set) → setBytes set ≡ now (bytes .entry)) ⌝ }
     {
         if bytes.len() != shape.size() {
             return None;

@@ -3,7 +3,7 @@ ghost use Prim.Native.Nat.{_≤_};
 mod content;
 
 // The bytes of a set: the first `length` bytes of `bytes`, which has room for the largest.
-#[derive(Clone, Copy, Debug)]
+#[derive(Clone, Copy)]
 pub struct SetBytes {
     bytes: [u8; 20],
     length: usize,

@@ -23,16 +23,19 @@ pub(crate) const AMOUNT: Limits = Limits {
     high: 800000,
     scale: 1,
 };
+
 pub(crate) const CELSIUS: Limits = Limits {
     low: 20,
     high: 200,
     scale: 100,
 };
+
 pub(crate) const KILOPASCALS: Limits = Limits {
     low: 1,
     high: 22000,
     scale: 1,
 };
+
 pub(crate) const CUBIC_METRES: Limits = Limits {
     low: 0,
     high: 80000,

@@ -38,19 +38,19 @@ pub enum Shape {
     Wastewater,
 }
 
-#[derive(Clone, Copy, PartialEq, Eq, Debug)]
+#[derive(Clone, Copy)]
 pub struct WaterQuantities {
     pub kilograms: u32,
     pub hundredths: u32,
 }
 
-#[derive(Clone, Copy, PartialEq, Eq, Debug)]
+#[derive(Clone, Copy)]
 pub struct SteamQuantities {
     pub kilograms: u32,
     pub kilopascals: u32,
 }
 
-#[derive(Clone, Copy, PartialEq, Eq, Debug)]
+#[derive(Clone, Copy)]
 pub struct WastewaterQuantities {
     pub cubic_metres: u32,
     pub inlet: u32,
@@ -59,7 +59,7 @@ pub struct WastewaterQuantities {
     pub recovered: u32,
 }
 
-#[derive(Clone, Copy, PartialEq, Eq, Debug)]
+#[derive(Clone, Copy)]
 pub enum Quantities {
     Amount(u32),
     Water(WaterQuantities),

@@ -45,9 +45,10 @@ headed y d k i t h e =
     let ke = same-ok (c .0) (k, i) (kc .1) in
     let f = then-given (tierIn t) _ h (c .2) in
     let tf = cond-given (tierKnown t) (Ok t) _ (f .0) (f .1) in
-    let te = same-ok (f .0) t (tf .1) in
-    ( same-ok h _ (f .2) ∙ (λ j. record { year = de j .0; day = de j .1; kind = ke j .0; item = ke j .1; tier = te j }) ∙ (λ j. record { year = ye j; day = d; kind = k; item = i; tier = t })
-    , record { year-ok = ya .0; day-ok = subst (λ z. dayLawful z d ≡ true) ye (db .0); kind-ok = kc .0; tier-ok = tf .0 } )
+    let te = same-ok (f .0) t (tf .1) in (
+      same-ok h _ (f .2) ∙ (λ j. record { year = de j .0; day = de j .1; kind = ke j .0; item = ke j .1; tier = te j }) ∙ (λ j. record { year = ye j; day = d; kind = k; item = i; tier = t }),
+      record { year-ok = ya .0; day-ok = subst (λ z. dayLawful z d ≡ true) ye (db .0); kind-ok = kc .0; tier-ok = tf .0 },
+    )
 
 pub head-is : (y d k i t : ℕ) → Headed y d k i t → Ok (head y d k i t) ≡ headIn y d k i t
 head-is y d k i t h = simp (h .year-ok, h .day-ok, h .kind-ok, h .tier-ok)

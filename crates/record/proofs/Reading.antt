@@ -39,7 +39,7 @@ module _ (bs : List ℕ) (p : Parts) (y d : ℕ) (y-is : y ≡ yearNamed p) (d-i
     by-head : recordIn bs ≡ withSet h (shareNamed p) (setIn shape (p .readings))
     unfolding recordBy
     by-head =
-      by-parts ∙ (then-ok _ _ h (headed ∙ (λ i. headIn (y-is i) (d-is i) (p .kind) (p .item) (p .tier))) ∙ ap (λ s. withSet h (shareNamed p) (setIn s (p .readings))) (sym shape-is))
+        by-parts ∙ (then-ok _ _ h (headed ∙ (λ i. headIn (y-is i) (d-is i) (p .kind) (p .item) (p .tier))) ∙ ap (λ s. withSet h (shareNamed p) (setIn s (p .readings))) (sym shape-is))
 
     pub read-setless : None ≡ setIn shape (p .readings) → Err (refusal Record 9 0) ≡ recordIn bs
     read-setless e = sym (by-head ∙ ap (withSet h (shareNamed p)) (sym e))

@@ -69,6 +69,7 @@ write-put r s name old o out n c a l =
     let same = passed r s c .0 in
     let fits = cond-given (leb (length name) 16) (Ok tt) _ tt n .0 in
     let put = put-sound (partsFor r name) old (sound-for r name fits) in
-    let says : writeSays r name (length old) ≡ fitted (length (recordBytes r name)) (length old) = then-ok _ _ tt n ∙ then-ok _ _ s c in
-    ( a ∙ (ap (λ x. writeAnswers (partsFor x name) (length old)) same ∙ (put .0 ∙ sym says))
-    , l ∙ (ap (λ x. writeLeaves (partsFor x name) old) same ∙ (put .1 ∙ ap (left (recordBytes r name) old) (sym says))) )
+    let says : writeSays r name (length old) ≡ fitted (length (recordBytes r name)) (length old) = then-ok _ _ tt n ∙ then-ok _ _ s c in (
+      a ∙ (ap (λ x. writeAnswers (partsFor x name) (length old)) same ∙ (put .0 ∙ sym says)),
+      l ∙ (ap (λ x. writeLeaves (partsFor x name) old) same ∙ (put .1 ∙ ap (left (recordBytes r name) old) (sym says))),
+    )

@@ -23,12 +23,12 @@ use Rattle.record.specs.Rules.{Head, headIn, shapeIn, sameShape, shareLawful}
 abbrev pub completed : Head → ReadingSet → Option ℕ → Result RawRecord Refusal
 completed h set share =
     cond (sameShape (shapeOf set) (shapeIn (h .kind) (h .item)))
-      (cond (lawfulSet set)
-        (cond (shareLawful (h .kind) share)
-          (Ok (record { year = h .year; day = h .day; kind = h .kind; item = h .item; tier = h .tier; share = share; readings = set }))
-          (Err (refusal Record 10 0)))
-        (Err (refusal Record 9 (firstUnlawful set))))
-      (Err (refusal Record 9 0))
+    (cond (lawfulSet set)
+    (cond (shareLawful (h .kind) share)
+    (Ok (record { year = h .year; day = h .day; kind = h .kind; item = h .item; tier = h .tier; share = share; readings = set }))
+    (Err (refusal Record 10 0)))
+    (Err (refusal Record 9 (firstUnlawful set))))
+    (Err (refusal Record 9 0))
 
 -- a stated record, if it is lawful, or its first refusal
 unfoldable pub checked : RawRecord → Result RawRecord Refusal
@@ -43,7 +43,7 @@ withSet h share (Some set) = completed h set share
 unfoldable pub recordBy : Parts → Result RawRecord Refusal
 recordBy p =
     then (headIn (yearNamed p) (dayNamed p) (p .kind) (p .item) (p .tier))
-      (λ h. withSet h (shareNamed p) (setIn (shapeIn (h .kind) (h .item)) (p .readings)))
+    (λ h. withSet h (shareNamed p) (setIn (shapeIn (h .kind) (h .item)) (p .readings)))
 
 -- the record that a byte string holds as a frame
 abbrev pub recordIn : List ℕ → Result RawRecord Refusal
@@ -60,8 +60,14 @@ shareBytes (Some s) = Some (twoBytes s)
 -- the parts of the frame that holds a record and a meter's name
 abbrev pub partsFor : RawRecord → List ℕ → Parts
 partsFor r name = record {
-    when = twoBytes (r .year) ++ twoBytes (r .day); kind = r .kind; item = r .item; tier = r .tier;
-    readings = setBytes (r .readings); share = shareBytes (r .share); name = name }
+  when = twoBytes (r .year) ++ twoBytes (r .day);
+  kind = r .kind;
+  item = r .item;
+  tier = r .tier;
+  readings = setBytes (r .readings);
+  share = shareBytes (r .share);
+  name = name;
+}
 
 -- that frame
 abbrev pub recordBytes : RawRecord → List ℕ → List ℕ

@@ -77,4 +77,4 @@ pub record Head : Type 0 where
 abbrev pub headIn : (year day kind item tier : ℕ) → Result Head Refusal
 headIn year day kind item tier =
     then (yearIn year) (λ y. then (dayIn y day) (λ d. then (kindIn kind item) (λ k. then (tierIn tier) (λ t.
-      Ok (record { year = d .0; day = d .1; kind = k .0; item = k .1; tier = t })))))
+    Ok (record { year = d .0; day = d .1; kind = k .0; item = k .1; tier = t })))))

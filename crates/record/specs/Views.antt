@@ -12,5 +12,11 @@ headOf h = record { year = h .day .year .number; day = h .day .number; kind = nu
 
 abbrev pub rawOf : Record → RawRecord
 rawOf r = record {
-    year = r .day .year .number; day = r .day .number; kind = numbersOf (r .kind) .0; item = numbersOf (r .kind) .1; tier = letterOf (r .tier);
-    share = r .share; readings = r .readings .set }
+  year = r .day .year .number;
+  day = r .day .number;
+  kind = numbersOf (r .kind) .0;
+  item = numbersOf (r .kind) .1;
+  tier = letterOf (r .tier);
+  share = r .share;
+  readings = r .readings .set;
+}

@@ -3,12 +3,12 @@ ghost use Rattle.refusal.specs.Said.{said};
 ghost use Rattle.record.specs.Faults.{refusalOf};
 ghost use Rattle.record.specs.Rules.{headIn};
 ghost use Rattle.record.specs.Views.{headOf};
-use calendar::Day;
-use calendar::Year;
 use crate::fault::RecordFault;
 use crate::fault::RecordFromDate;
 use crate::kind::Kind;
 use crate::tier::Tier;
+use calendar::Day;
+use calendar::Year;
 
 // What stands before the readings of a record.
 #[derive(Clone, Copy)]

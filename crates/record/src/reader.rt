@@ -26,7 +26,13 @@ pub fn read(frame: &[u8]) -> Result<Record, RecordFault>
     ensures { λ r. ⌜ said rawOf refusalOf r ≡ recordIn (now (frame .entry)) ⌝ }
 {
     let fields = frame::read(frame)?;
-    let heading = Heading::new(fields.year(), fields.day(), fields.kind, fields.item, fields.tier as char)?;
+    let heading = Heading::new(
+        fields.year(),
+        fields.day(),
+        fields.kind,
+        fields.item,
+        fields.tier as char,
+    )?;
     let Some(set) = ReadingSet::read(heading.kind.shape(), fields.readings) else {
         return Err(RecordFault::Readings(ReadingFault::SetWrong));
     };

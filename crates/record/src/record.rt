@@ -2,9 +2,9 @@ ghost use lib.Dec.{T};
 ghost use Rattle.reading.specs.Layout.{shapeOf};
 ghost use Rattle.record.specs.Kinds.{numbersOf};
 ghost use Rattle.record.specs.Rules.{fitting};
-use calendar::Day;
 use crate::kind::Kind;
 use crate::tier::Tier;
+use calendar::Day;
 use reading::Readings;
 
 mod parts;

@@ -1,10 +1,10 @@
 -- The laws of `nearest`. Other crates use these and not its definition.
 use mathlib.Core.Path.{_≡_, sym}
-use Prim.Native.Nat.{ℕ, _+_, _*_, _/_, _%_, _≤_, _<_}
+use Prim.Native.Nat.{ℕ, _+_, _*_, _≤_, _<_}
 use native.Mathlib.Nat.{div-add-mod, mod-lt, div-eq-of-lt-le, div-lt-iff-lt-mul}
 use native.Mathlib.Omega.{arith}
 use lib.Ieee.Nearest.{div-same}
-use Rattle.rounding.specs.Nearest.{nearest, Nearest}
+use Rattle.rounding.specs.Nearest.{nearest}
 use Rattle.rounding.specs.Laws.{Holds, Only}
 
 pub holds : Holds

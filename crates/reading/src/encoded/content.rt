@@ -2,10 +2,13 @@ use super::SetBytes;
 use crate::binary32::to_bytes;
 use crate::sets::ReadingSet;
 ghost use mathlib.Core.Path.{_≡_};
+ghost use mathlib.Core.Bool.{true};
 ghost use mathlib.Core.List.{[], _++_};
 ghost use Prim.Native.Nat.{_+_, _≤_};
+ghost use lib.Ieee.{binary32, fits};
+ghost use Rattle.std.specs.declared.option.Option.the-variants.{Some};
 ghost use Rattle.reading.specs.Wire.{encode};
-ghost use Rattle.reading.specs.Layout.{setBytes};
+ghost use Rattle.reading.specs.Layout.{shapeOf, setIn, setBytes, Held};
 ghost use Rattle.reading.specs.Content.{content};
 
 impl SetBytes {
@@ -24,6 +27,7 @@ impl SetBytes {
         requires { ⌜ self .length ≤ 16 ⌝ }
         ensures content { λ r. ⌜ content r ≡ content self ++ encode x ⌝ }
         ensures length { λ r. ⌜ r .length ≡ self .length + 4 ⌝ }
+        ensures held { λ _. ⌜ fits binary32 x ≡ true ⌝ }
     {
         let at = self.length;
         let mut bytes = self.bytes;
@@ -47,7 +51,9 @@ impl SetBytes {
 
 impl ReadingSet {
     pub fn bytes(&self) -> SetBytes
-        ensures { λ r. ⌜ content r ≡ setBytes (now (self .entry)) ⌝ }
+        ensures value { λ r. ⌜ content r ≡ setBytes (now (self .entry)) ⌝ }
+        ensures back { λ r. ⌜ setIn (shapeOf (now (self .entry))) (content r) ≡ Some (now (self .entry)) ⌝ }
+        ensures held { λ _. ⌜ Held (now (self .entry)) ⌝ }
     {
         match *self {
             ReadingSet::Amount(x) => SetBytes::empty().with(x),

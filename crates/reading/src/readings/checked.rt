@@ -1,3 +1,4 @@
+use super::Readings;
 use crate::fault::ReadingFault;
 use crate::limits::AMOUNT;
 use crate::limits::CELSIUS;
@@ -11,7 +12,6 @@ use crate::sets::ReadingSet;
 use crate::sets::SteamQuantities;
 use crate::sets::WastewaterQuantities;
 use crate::sets::WaterQuantities;
-use super::Readings;
 ghost use mathlib.Core.Path.{_≡_};
 ghost use Rattle.refusal.specs.Said.{said};
 ghost use Rattle.reading.specs.Refusals.{refusalOf};

@@ -3,12 +3,12 @@ ghost use Rattle.refusal.specs.Said.{said};
 ghost use Rattle.record.specs.Faults.{refusalOf};
 ghost use Rattle.record.specs.Rules.{kindIn, shapeIn};
 ghost use Rattle.record.specs.Kinds.{numbersOf, carbonateItem, heatItem, fuelItem, fuelIn, carbonateIn, heatIn, plainIn};
-use crate::fault::RecordFault;
-use reading::Shape;
 use super::Carbonate;
 use super::Fuel;
 use super::Heat;
 use super::Kind;
+use crate::fault::RecordFault;
+use reading::Shape;
 
 impl Fuel {
     pub fn new(row: u8) -> Result<Fuel, RecordFault>
@@ -143,7 +143,11 @@ impl Kind {
         ensures { λ r. ⌜ r ≡ shapeIn (numbersOf self .0) (numbersOf self .1) ⌝ }
     {
         match self {
-            Kind::FuelBurnt(_) | Kind::CarbonateUsed(_) | Kind::BoughtCo2 | Kind::PowerBought | Kind::PowerSold => Shape::Amount,
+            Kind::FuelBurnt(_)
+            | Kind::CarbonateUsed(_)
+            | Kind::BoughtCo2
+            | Kind::PowerBought
+            | Kind::PowerSold => Shape::Amount,
             Kind::WastewaterTreated => Shape::Wastewater,
             Kind::HeatBought(heat) => heat.shape(),
             Kind::HeatSold(heat) => heat.shape(),

@@ -10,18 +10,18 @@ ghost use Rattle.record.specs.Records.{completed};
 ghost use Rattle.record.specs.Rules.{sameShape, shareLawful};
 ghost use Rattle.record.specs.Tiers.{letterOf};
 ghost use Rattle.record.specs.Views.{headOf, rawOf};
-use calendar::Day;
+use super::Record;
 use crate::fault::RecordFault;
 use crate::fault::RecordFromReadings;
 use crate::heading::Heading;
 use crate::kind::Kind;
 use crate::raw::RawRecord;
 use crate::tier::Tier;
+use calendar::Day;
 use reading::ReadingFault;
 use reading::ReadingSet;
 use reading::Readings;
 use reading::Shape;
-use super::Record;
 
 // Most thousandths that a share can have.
 const WHOLE: u16 = 1000;
@@ -52,7 +52,11 @@ fn share_fits(kind: Kind, share: Option<u16>) -> bool
 
 impl Record {
     // The record of a heading with its readings and share, if they fit it.
-    pub(crate) fn new(heading: Heading, set: ReadingSet, share: Option<u16>) -> Result<Record, RecordFault>
+    pub(crate) fn new(
+        heading: Heading,
+        set: ReadingSet,
+        share: Option<u16>,
+    ) -> Result<Record, RecordFault>
         ensures { λ r. ⌜ said rawOf refusalOf r ≡ completed (headOf heading) set share ⌝ }
     {
         if !is_of_shape(set, heading.kind.shape()) {

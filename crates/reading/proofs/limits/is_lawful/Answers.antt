@@ -1,5 +1,4 @@
 use mathlib.Core.Path.{sym, _∙_}
-use lib.Dec.{T}
 use native.Mathlib.Omega.{arith}
 use Rattle.reading.proofs.Exactly.{is-clear, not-finite, not-positive, passes, stops, refused}
 use Rattle.reading.proofs.limits.is_lawful.Needs as need

@@ -1,7 +1,8 @@
-use mathlib.Core.Path.{_≡_, sym, ap, _∙_, subst}
+use mathlib.Core.Path.{_≡_, sym, _∙_, subst}
 use mathlib.Core.Bool.{true}
 use lib.Dec.{T}
-use lib.Ieee.{binary32, binary64, fits, mul, toUnsigned}
+use lib.IntN.{pos}
+use lib.Ieee.{binary32, binary64, fits, mul, ofInt, toUnsigned}
 use native.Mathlib.Omega.{arith}
 use borrow.Author.Needs.{needs}
 use Rattle.std.specs.Floats.{roundAway}
@@ -10,7 +11,8 @@ use Rattle.reading.proofs.limits.quantity.Needs as need
 
 pub returns : need.returns
 returns c h t =
-    let held : fits binary32 (c .args .x) ≡ true = search needs in
-    c .saturating-f64-to-u32 .ensures
-    ∙ ap (toUnsigned 32) (c .round .ensures ∙ (λ i. roundAway binary64 (mul binary64 (c .from .ensures i) (c .from-2 .ensures i))))
-    ∙ quantity-is (c .args .x) (c .args .limits .scale) (c .args .limits .low) (c .args .limits .high) (subst T (sym held) tt) (omega arith) h t
+    let x = c .args .x in
+    let k = c .args .limits .scale in
+    let held : fits binary32 x ≡ true = search needs in
+    let value : c .saturating-f64-to-u32 .result ≡ toUnsigned 32 (roundAway binary64 (mul binary64 x (ofInt binary64 (pos k)))) = cc in
+    value ∙ quantity-is x k (c .args .limits .low) (c .args .limits .high) (subst T (sym held) tt) (omega arith) h t
