@@ -1,0 +1,3 @@
+pub mod First
+pub mod Along
+pub mod Once
