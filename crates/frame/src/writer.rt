@@ -56,7 +56,7 @@ fn put_name(out: &mut [u8], at: usize, name: &[u8]) -> usize
     }
 }
 
-// Whether every field has a length that it may have; the types see to those that are not tested.
+// Whether every field has a length that it may have; the types see to the others.
 fn is_sound(fields: Fields<'_>) -> bool
     ensures { λ r. ⌜ r ≡ sound (partsOf (fields .entry)) ⌝ }
 {

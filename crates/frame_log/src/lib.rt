@@ -94,7 +94,72 @@ pub fn count(log: &[u8]) -> Counts
 
 // A log spells one list of frames, so its counts are determined.
 pub fn logs_stand() -> u8
-    ensures { λ _. ⌜ Spells-once ⌝ }
+    ensures zero { λ r. ⌜ r ≡ 0 ⌝ }
+    ensures once { λ _. ⌜ Spells-once ⌝ }
 {
     0
+}
+
+#[cfg(test)]
+mod tests {
+    use super::*;
+    use std::test::*;
+
+    // 2024, then one frame: day 366 of 2024, fuel of row 2, default factor, 1000 kg.
+    static LOG: [u8; 30] = [
+        0x07,
+        0xE8,
+        0x00,
+        0x1A,
+        0x01,
+        0x00,
+        0x04,
+        0x07,
+        0xE8,
+        0x01,
+        0x6E,
+        0x02,
+        0x00,
+        0x01,
+        0x01,
+        0x03,
+        0x00,
+        0x01,
+        0x02,
+        0x04,
+        0x00,
+        0x01,
+        0x44,
+        0x05,
+        0x00,
+        0x04,
+        0x44,
+        0x7A,
+        0x00,
+        0x00,
+    ];
+
+    fn is_counted(log: &[u8], year: u16, taken: usize, refused: usize) -> bool {
+        let counts = count(log);
+        counts.year == year && counts.taken == taken && counts.refused == refused
+    }
+
+    #[test]
+    fn leap_day_is_taken() -> Result<(), Fail> {
+        check(is_counted(&LOG, 2024, 1, 0))
+    }
+
+    #[test]
+    fn cut_off_is_refused() -> Result<(), Fail> {
+        check(is_counted(&LOG[0..29], 2024, 0, 1))?;
+        check(is_counted(&LOG[0..3], 2024, 0, 1))?;
+        check(is_counted(&LOG[0..2], 2024, 0, 0))
+    }
+
+    #[test]
+    fn no_lawful_year() -> Result<(), Fail> {
+        check(is_counted(&LOG[0..1], 0, 0, 0))?;
+        check(is_counted(&[0x07, 0xCF, 0x00], 0, 0, 0))?;
+        check(is_counted(&[0x08, 0x98, 0x00], 0, 0, 0))
+    }
 }

@@ -8,7 +8,7 @@ use lib.Ieee.Fits.{and-l, and-r}
 use Rattle.rounding.specs.Nearest.{Nearest}
 use Rattle.rounding.proofs.Laws as rounding
 use Rattle.reading.specs.Dyadic.{over, under}
-use Rattle.reading.specs.Limited.{Limited, amount, temperature, pressure, volume, oxygen, kept, allKept, readingsOf, lawfulSet}
+use Rattle.reading.specs.Limited.{Limited, amount, temperature, pressure, volume, cod, kept, allKept, readingsOf, lawfulSet}
 use Rattle.reading.specs.Quantity.{quantityOf, quantitiesOf, wholesOf, Rounded}
 use Rattle.reading.specs.declared.sets.ReadingSet.{ReadingSet}
 use Rattle.reading.specs.declared.sets.ReadingSet.the-variants.{Amount, Water, Steam, Wastewater}
@@ -35,7 +35,7 @@ all-near : (set : ReadingSet) → Rounded (readingsOf set) (wholesOf (quantities
 all-near (Amount x) = (near (amount x), tt)
 all-near (Water w) = (near (amount (w .kilograms)), (near (temperature (w .celsius)), tt))
 all-near (Steam s) = (near (amount (s .kilograms)), (near (pressure (s .kilopascals)), tt))
-all-near (Wastewater w) = (near (volume (w .«cubic_metres»)), (near (oxygen (w .inlet)), (near (oxygen (w .outlet)), (near (amount (w .sludge)), (near (amount (w .recovered)), tt)))))
+all-near (Wastewater w) = (near (volume (w .«cubic_metres»)), (near (cod (w .inlet)), (near (cod (w .outlet)), (near (amount (w .sludge)), (near (amount (w .recovered)), tt)))))
 
 pub rounded : (set : ReadingSet) (q : Quantities) → q ≡ quantitiesOf set → Rounded (readingsOf set) (wholesOf q)
 rounded set q e = subst (λ (z : Quantities). Rounded (readingsOf set) (wholesOf z)) (sym e) (all-near set)
@@ -63,7 +63,7 @@ module _ (set : ReadingSet) (lawful : T (lawfulSet set)) where
       let k = at (Steam s) e in
       (λ i. SteamOf (record { kilograms = p (lit≤ tt) (k .0) i; kilopascals = q (lit≤ tt) (k .1 .0) i })) ∙ ap quantitiesOf (sym e)
 
-  pub wastewater-counts : (w : WastewaterReadings) (a b c d f : ℕ) → set ≡ Wastewater w → Counts (volume (w .«cubic_metres»)) a → Counts (oxygen (w .inlet)) b → Counts (oxygen (w .outlet)) c → Counts (amount (w .sludge)) d → Counts (amount (w .recovered)) f
+  pub wastewater-counts : (w : WastewaterReadings) (a b c d f : ℕ) → set ≡ Wastewater w → Counts (volume (w .«cubic_metres»)) a → Counts (cod (w .inlet)) b → Counts (cod (w .outlet)) c → Counts (amount (w .sludge)) d → Counts (amount (w .recovered)) f
       → WastewaterOf (record { «cubic_metres» = a; inlet = b; outlet = c; sludge = d; recovered = f }) ≡ quantitiesOf set
   wastewater-counts w a b c d f e p q r s t =
       let k = at (Wastewater w) e in

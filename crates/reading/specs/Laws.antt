@@ -1,4 +1,4 @@
--- What holds of sets and of their bytes.
+-- What holds of every set and of its bytes, and of some readings.
 use mathlib.Core.Path.{_≡_}
 use mathlib.Core.Bool.{true, false}
 use mathlib.Core.List.{List}
@@ -29,6 +29,7 @@ Sized = (set : ReadingSet) → length (setBytes set) ≡ 4 * count (shapeOf set)
 abbrev pub Written : Type 0
 Written = (set : ReadingSet) → Bytes (setBytes set)
 
+-- the four laws
 abbrev pub Stands : Type 0
 Stands = ReadBack × WrittenBack × Sized × Written
 

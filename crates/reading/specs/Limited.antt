@@ -35,16 +35,16 @@ pressure x = record { value = x; low = 1; high = 22000; scale = 1 }
 abbrev pub volume : Float → Limited
 volume x = record { value = x; low = 0; high = 80000; scale = 1 }
 
--- chemical oxygen demand in grams per cubic metre
-abbrev pub oxygen : Float → Limited
-oxygen x = record { value = x; low = 0; high = 100000; scale = 1 }
+-- COD, in grams per cubic metre
+abbrev pub cod : Float → Limited
+cod x = record { value = x; low = 0; high = 100000; scale = 1 }
 
 -- the readings of a set in their order
 abbrev pub readingsOf : ReadingSet → List Limited
 readingsOf (Amount x) = amount x ∷ []
 readingsOf (Water w) = amount (w .kilograms) ∷ temperature (w .celsius) ∷ []
 readingsOf (Steam s) = amount (s .kilograms) ∷ pressure (s .kilopascals) ∷ []
-readingsOf (Wastewater w) = volume (w .«cubic_metres») ∷ oxygen (w .inlet) ∷ oxygen (w .outlet) ∷ amount (w .sludge) ∷ amount (w .recovered) ∷ []
+readingsOf (Wastewater w) = volume (w .«cubic_metres») ∷ cod (w .inlet) ∷ cod (w .outlet) ∷ amount (w .sludge) ∷ amount (w .recovered) ∷ []
 
 -- the reading keeps its limits
 abbrev pub kept : Limited → Bool

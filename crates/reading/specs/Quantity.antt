@@ -6,7 +6,7 @@ use Rattle.std.specs.declared.result.Result.the-variants.{Ok, Err}
 use Rattle.refusal.specs.declared.Refusal.{Refusal}
 use Rattle.rounding.specs.Nearest.{nearest, Nearest}
 use Rattle.reading.specs.Dyadic.{over, under}
-use Rattle.reading.specs.Limited.{Limited, amount, temperature, pressure, volume, oxygen}
+use Rattle.reading.specs.Limited.{Limited, amount, temperature, pressure, volume, cod}
 use Rattle.reading.specs.declared.sets.ReadingSet.{ReadingSet}
 use Rattle.reading.specs.declared.sets.ReadingSet.the-variants.{Amount, Water, Steam, Wastewater}
 use Rattle.reading.specs.declared.sets.Quantities.{Quantities}
@@ -23,8 +23,8 @@ quantitiesOf (Water w) = WaterOf (record { kilograms = quantityOf (amount (w .ki
 quantitiesOf (Steam s) = SteamOf (record { kilograms = quantityOf (amount (s .kilograms)); kilopascals = quantityOf (pressure (s .kilopascals)) })
 quantitiesOf (Wastewater w) = WastewaterOf (record {
   «cubic_metres» = quantityOf (volume (w .«cubic_metres»));
-  inlet = quantityOf (oxygen (w .inlet));
-  outlet = quantityOf (oxygen (w .outlet));
+  inlet = quantityOf (cod (w .inlet));
+  outlet = quantityOf (cod (w .outlet));
   sludge = quantityOf (amount (w .sludge));
   recovered = quantityOf (amount (w .recovered));
 })

@@ -27,6 +27,7 @@ impl Shape {
     }
 }
 
+// The reading at a place, counted from 0.
 fn reading_at(bytes: &[u8], place: usize) -> f32
     requires { ⌜ 4 * place + 4 ≤ length (now bytes) ⌝ }
     ensures { λ r. ⌜ r ≡ readingAt place (now (bytes .entry)) ⌝ }

@@ -11,6 +11,7 @@ pub enum ReadingFault {
 }
 
 impl ReadingFault {
+    // Number 9 of the record layer; the place is 0 for the set as a whole.
     pub fn refusal(self) -> Refusal
         ensures { λ r. ⌜ r ≡ refusalOf self ⌝ }
     {

@@ -1,4 +1,4 @@
-// Each reading's limits, and the test and the rounding that go by them.
+// Each reading's limits: what is lawful by them, and the quantity of a lawful reading.
 use crate::sets::ReadingSet;
 use std::num::saturating_f64_to_u32;
 ghost use mathlib.Core.Path.{_≡_};
@@ -18,12 +18,14 @@ pub(crate) struct Limits {
     scale: u8,
 }
 
+// Kilograms, and every reading with no limits of its own.
 pub(crate) const AMOUNT: Limits = Limits {
     low: 0,
     high: 800000,
     scale: 1,
 };
 
+// Degrees Celsius; the quantity counts hundredths.
 pub(crate) const CELSIUS: Limits = Limits {
     low: 20,
     high: 200,
@@ -41,13 +43,15 @@ pub(crate) const CUBIC_METRES: Limits = Limits {
     high: 80000,
     scale: 1,
 };
-// Chemical oxygen demand, in grams per cubic metre.
-pub(crate) const OXYGEN: Limits = Limits {
+
+// In grams per cubic metre.
+pub(crate) const COD: Limits = Limits {
     low: 0,
     high: 100000,
     scale: 1,
 };
 
+// Finite, with a clear sign bit, and within the limits as delivered.
 fn is_lawful(x: f32, limits: Limits) -> bool
     ensures { λ r. ⌜ r ≡ lawful x (limits .low) (limits .high) ⌝ }
 {
@@ -89,10 +93,10 @@ pub(crate) fn first_unlawful(set: ReadingSet) -> Option<u8>
             if !is_lawful(w.cubic_metres, CUBIC_METRES) {
                 return Some(1);
             }
-            if !is_lawful(w.inlet, OXYGEN) {
+            if !is_lawful(w.inlet, COD) {
                 return Some(2);
             }
-            if !is_lawful(w.outlet, OXYGEN) {
+            if !is_lawful(w.outlet, COD) {
                 return Some(3);
             }
             if !is_lawful(w.sludge, AMOUNT) {
@@ -106,7 +110,7 @@ pub(crate) fn first_unlawful(set: ReadingSet) -> Option<u8>
     None
 }
 
-// The product is exact in an f64: a reading has 24 digits and a scale 8.
+// The reading's quantity. The product is exact in an f64, which keeps 53 digits: a reading has 24 and a scale 8.
 pub(crate) fn quantity(x: f32, limits: Limits) -> u32
     ensures { λ r. ⌜ (limits .high ≤ 800000 → T (lawful x (limits .low) (limits .high)) → r ≡ nearest (limits .scale * over x) (under x)) ⌝ }
 {

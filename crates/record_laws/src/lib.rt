@@ -36,9 +36,79 @@ pub fn copy_frame(frame: &[u8], out: &mut [u8]) -> Result<usize, RecordFault>
 
 // The two ways as theorems over every record, name and byte string.
 pub fn records_stand() -> u8
+    ensures zero { λ r. ⌜ r ≡ 0 ⌝ }
     ensures written { λ _. ⌜ Written-reads ⌝ }
     ensures read { λ _. ⌜ Read-writes ⌝ }
     ensures lawful { λ _. ⌜ Read-lawful ⌝ }
 {
     0
+}
+
+#[cfg(test)]
+mod tests {
+    use super::*;
+    use record::RecordFaultDebug;
+    use std::test::*;
+
+    // Day 366 of 2024, fuel of row 2, default factor, 1000 kg, no name.
+    static FRAME: [u8; 26] = [
+        0x01,
+        0x00,
+        0x04,
+        0x07,
+        0xE8,
+        0x01,
+        0x6E,
+        0x02,
+        0x00,
+        0x01,
+        0x01,
+        0x03,
+        0x00,
+        0x01,
+        0x02,
+        0x04,
+        0x00,
+        0x01,
+        0x44,
+        0x05,
+        0x00,
+        0x04,
+        0x44,
+        0x7A,
+        0x00,
+        0x00,
+    ];
+
+    #[test]
+    fn copies_the_frame() -> Result<(), Fail> {
+        let mut out = [9; 27];
+        check(copy_frame(&FRAME, &mut out)? == 26)?;
+        check(&out[0..26] == &FRAME[0..26])?;
+        check(out[26] == 9)
+    }
+
+    #[test]
+    fn leaves_a_short_buffer() -> Result<(), Fail> {
+        let mut out = [9; 25];
+        match copy_frame(&FRAME, &mut out) {
+            Ok(_) => check(false)?,
+            Err(fault) => {
+                check(fault.refusal().number == 20)?;
+                check(fault.refusal().place == 26)?;
+            }
+        }
+        check(out[0] == 9)
+    }
+
+    #[test]
+    fn day_366_of_a_common_year() -> Result<(), Fail> {
+        let mut frame = FRAME;
+        frame[4] = 0xE7;
+        let mut out = [9; 26];
+        match copy_frame(&frame, &mut out) {
+            Ok(_) => check(false),
+            Err(fault) => check(fault.refusal().number == 6),
+        }
+    }
 }

@@ -11,5 +11,6 @@ Holds = (over under : ℕ) → 1 ≤ under → Nearest over under (nearest over 
 abbrev pub Only : Type 0
 Only = (over under q : ℕ) → 1 ≤ under → Nearest over under q → q ≡ nearest over under
 
+-- both laws
 abbrev pub Stands : Type 0
 Stands = Holds × Only

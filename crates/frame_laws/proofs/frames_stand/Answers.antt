@@ -1,5 +1,6 @@
+use mathlib.Core.Path.{refl}
 use Rattle.frame_laws.proofs.Main.{accepts, refuses, refuses-as-frame}
 use Rattle.frame_laws.proofs.frames_stand.Needs as need
 
 pub returns : need.returns
-returns c = record { accepts = accepts; refuses = refuses; layer = refuses-as-frame }
+returns c = record { zero = refl; accepts = accepts; refuses = refuses; layer = refuses-as-frame }

@@ -12,6 +12,7 @@ ghost use Rattle.reading.specs.Layout.{shapeOf, setIn, setBytes, Held};
 ghost use Rattle.reading.specs.Content.{content};
 
 impl SetBytes {
+    // No reading yet.
     fn empty() -> SetBytes
         ensures content { λ r. ⌜ content r ≡ [] ⌝ }
         ensures length { λ r. ⌜ r .length ≡ 0 ⌝ }
@@ -42,6 +43,7 @@ impl SetBytes {
         }
     }
 
+    // The bytes alone, without the room that is left.
     pub fn as_slice(&self) -> &[u8]
         ensures { λ r. ⌜ now r ≡ content (now (self .entry)) ⌝ }
     {
@@ -50,6 +52,7 @@ impl SetBytes {
 }
 
 impl ReadingSet {
+    // The set's bytes: its readings in their order.
     pub fn bytes(&self) -> SetBytes
         ensures value { λ r. ⌜ content r ≡ setBytes (now (self .entry)) ⌝ }
         ensures back { λ r. ⌜ setIn (shapeOf (now (self .entry))) (content r) ≡ Some (now (self .entry)) ⌝ }

@@ -2,9 +2,9 @@ use super::Readings;
 use crate::fault::ReadingFault;
 use crate::limits::AMOUNT;
 use crate::limits::CELSIUS;
+use crate::limits::COD;
 use crate::limits::CUBIC_METRES;
 use crate::limits::KILOPASCALS;
-use crate::limits::OXYGEN;
 use crate::limits::first_unlawful;
 use crate::limits::quantity;
 use crate::sets::Quantities;
@@ -35,6 +35,7 @@ impl Readings {
         self.set
     }
 
+    // The nearest whole number to each reading, a temperature in hundredths.
     pub fn quantities(self) -> Quantities
         ensures value { λ r. ⌜ r ≡ quantitiesOf (self .set) ⌝ }
         ensures rounded { λ r. ⌜ Rounded (readingsOf (self .set)) (wholesOf r) ⌝ }
@@ -51,8 +52,8 @@ impl Readings {
             }),
             ReadingSet::Wastewater(w) => Quantities::Wastewater(WastewaterQuantities {
                 cubic_metres: quantity(w.cubic_metres, CUBIC_METRES),
-                inlet: quantity(w.inlet, OXYGEN),
-                outlet: quantity(w.outlet, OXYGEN),
+                inlet: quantity(w.inlet, COD),
+                outlet: quantity(w.outlet, COD),
                 sludge: quantity(w.sludge, AMOUNT),
                 recovered: quantity(w.recovered, AMOUNT),
             }),
