@@ -12,7 +12,8 @@ use Rattle.reading.specs.declared.sets.ReadingSet.{ReadingSet}
 use Rattle.reading.specs.Limited.{lawfulSet}
 use Rattle.reading.specs.Layout.{shapeOf}
 use Rattle.record.specs.declared.raw.RawRecord.{RawRecord}
-use Rattle.record.specs.Rules.{Head, headIn, kindKnown, kindIn, tierKnown, tierIn, shapeIn, sameShape, shareLawful}
+use Rattle.kind.specs.Subject.{kindKnown, kindIn, tierKnown, tierIn, shapeIn}
+use Rattle.record.specs.Rules.{Head, headIn, sameShape, shareLawful}
 use Rattle.record.specs.Records.{completed, checked}
 use Rattle.record.proofs.Chain.{then-ok, then-given, cond-given, same-ok}
 

@@ -15,7 +15,8 @@ use Rattle.reading.specs.declared.sets.ReadingSet.{ReadingSet}
 use Rattle.reading.specs.declared.sets.Shape.{Shape}
 use Rattle.reading.specs.Layout.{setIn}
 use Rattle.record.specs.declared.raw.RawRecord.{RawRecord}
-use Rattle.record.specs.Rules.{Head, headIn, shapeIn}
+use Rattle.kind.specs.Subject.{shapeIn}
+use Rattle.record.specs.Rules.{Head, headIn}
 use Rattle.record.specs.Records.{completed, checked, withSet, recordBy, recordIn}
 use Rattle.record.proofs.Chain.{then-ok, then-err}
 

@@ -17,7 +17,8 @@ use Rattle.reading.specs.declared.sets.ReadingSet.{ReadingSet}
 use Rattle.reading.specs.Limited.{lawfulSet, firstUnlawful}
 use Rattle.reading.specs.Layout.{shapeOf, setIn, setBytes}
 use Rattle.record.specs.declared.raw.RawRecord.{RawRecord}
-use Rattle.record.specs.Rules.{Head, headIn, shapeIn, sameShape, shareLawful}
+use Rattle.kind.specs.Subject.{shapeIn}
+use Rattle.record.specs.Rules.{Head, headIn, sameShape, shareLawful}
 
 -- a head with readings and share: the set must be the kind's, each reading lawful, and the share as the kind asks, in this order
 abbrev pub completed : Head → ReadingSet → Option ℕ → Result RawRecord Refusal

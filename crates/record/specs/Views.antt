@@ -3,8 +3,8 @@ use Prim.Native.Nat.{ℕ}
 use Rattle.record.specs.declared.heading.Heading.{Heading}
 use Rattle.record.specs.declared.record.Record.{Record}
 use Rattle.record.specs.declared.raw.RawRecord.{RawRecord}
-use Rattle.record.specs.Kinds.{numbersOf}
-use Rattle.record.specs.Tiers.{letterOf}
+use Rattle.kind.specs.Kinds.{numbersOf}
+use Rattle.kind.specs.Tiers.{letterOf}
 use Rattle.record.specs.Rules.{Head}
 
 abbrev pub headOf : Heading → Head

@@ -1,12 +1,15 @@
 ghost use mathlib.Core.Path.{_≡_};
 ghost use Rattle.record.specs.Faults.{refusalOf};
-ghost use Rattle.record.specs.declared.fault.RecordFault.the-variants.{Frame, Date, Readings};
+ghost use Rattle.record.specs.declared.fault.RecordFault.the-variants.{Frame, Date, Kind, Readings};
 use calendar::DateFault;
 use calendar::DateFaultDebug;
 use calendar::DateFaultPartialEq;
 use frame::FrameFault;
 use frame::FrameFaultDebug;
 use frame::FrameFaultPartialEq;
+use kind::KindFault;
+use kind::KindFaultDebug;
+use kind::KindFaultPartialEq;
 use reading::ReadingFault;
 use reading::ReadingFaultDebug;
 use reading::ReadingFaultPartialEq;
@@ -18,8 +21,7 @@ use refusal::Refusal;
 pub enum RecordFault {
     Frame(FrameFault),
     Date(DateFault),
-    KindUnknown,
-    TierUnknown,
+    Kind(KindFault),
     Readings(ReadingFault),
     ShareWrong,
 }
@@ -40,6 +42,14 @@ pub impl From<DateFault> for RecordFault as RecordFromDate {
     }
 }
 
+pub impl From<KindFault> for RecordFault as RecordFromKind {
+    ghost converts = { λ e r. r ≡ Kind e };
+
+    fn from(e: KindFault) -> RecordFault {
+        RecordFault::Kind(e)
+    }
+}
+
 pub impl From<ReadingFault> for RecordFault as RecordFromReadings {
     ghost converts = { λ e r. r ≡ Readings e };
 
@@ -55,16 +65,7 @@ impl RecordFault {
         match self {
             RecordFault::Frame(fault) => fault.refusal(),
             RecordFault::Date(fault) => fault.refusal(),
-            RecordFault::KindUnknown => Refusal {
-                layer: Layer::Record,
-                number: 7,
-                place: 0,
-            },
-            RecordFault::TierUnknown => Refusal {
-                layer: Layer::Record,
-                number: 8,
-                place: 0,
-            },
+            RecordFault::Kind(fault) => fault.refusal(),
             RecordFault::Readings(fault) => fault.refusal(),
             RecordFault::ShareWrong => Refusal {
                 layer: Layer::Record,

@@ -5,10 +5,11 @@ ghost use Rattle.record.specs.Rules.{headIn};
 ghost use Rattle.record.specs.Views.{headOf};
 use crate::fault::RecordFault;
 use crate::fault::RecordFromDate;
-use crate::kind::Kind;
-use crate::tier::Tier;
+use crate::fault::RecordFromKind;
 use calendar::Day;
 use calendar::Year;
+use kind::Kind;
+use kind::Tier;
 
 // What stands before the readings of a record.
 #[derive(Clone, Copy)]

@@ -1,10 +1,10 @@
 ghost use lib.Dec.{T};
 ghost use Rattle.reading.specs.Layout.{shapeOf};
-ghost use Rattle.record.specs.Kinds.{numbersOf};
+ghost use Rattle.kind.specs.Kinds.{numbersOf};
 ghost use Rattle.record.specs.Rules.{fitting};
-use crate::kind::Kind;
-use crate::tier::Tier;
 use calendar::Day;
+use kind::Kind;
+use kind::Tier;
 use reading::Readings;
 
 mod parts;

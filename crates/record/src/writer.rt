@@ -9,16 +9,16 @@ ghost use Rattle.frame.specs.Format.{writeAnswers, writeLeaves};
 ghost use Rattle.reading.specs.Layout.{Held};
 ghost use Rattle.record.specs.Faults.{refusalOf};
 ghost use Rattle.record.specs.Records.{twoBytes, shareBytes, partsFor, recordBytes, writeSays, left};
-ghost use Rattle.record.specs.Tiers.{letterOf};
+ghost use Rattle.kind.specs.Tiers.{letterOf};
 ghost use Rattle.record.specs.Views.{rawOf};
 use crate::fault::RecordFault;
 use crate::fault::RecordFromFrame;
 use crate::raw::RawRecord;
 use crate::record::Record;
-use crate::tier::Tier;
 use frame::Fields;
 use frame::FrameFault;
 use frame::check_name;
+use kind::Tier;
 
 fn two_bytes(n: u16) -> [u8; 2]
     ensures { λ r. ⌜ r ≡ twoBytes n ⌝ }

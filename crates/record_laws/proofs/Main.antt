@@ -31,7 +31,8 @@ use Rattle.reading.specs.Limited.{lawfulSet}
 use Rattle.reading.specs.Layout.{Held, shapeOf, setIn, setBytes}
 use Rattle.reading.proofs.Joined.{read-back, written-back}
 use Rattle.record.specs.declared.raw.RawRecord.{RawRecord}
-use Rattle.record.specs.Rules.{Head, headIn, shapeIn, sameShape}
+use Rattle.kind.specs.Subject.{shapeIn}
+use Rattle.record.specs.Rules.{Head, headIn, sameShape}
 use Rattle.record.specs.Records.{completed, checked, withSet, recordBy, recordIn, twoBytes, shareBytes, partsFor, recordBytes, fitted, writeSays, left}
 use Rattle.record.specs.declared.fault.RecordFault.{RecordFault}
 use Rattle.record.specs.Faults.{refusalOf}

@@ -1,23 +1,23 @@
 ghost use mathlib.Core.Path.{_≡_};
 ghost use Rattle.refusal.specs.Said.{said};
-ghost use Rattle.record.specs.Faults.{refusalOf};
-ghost use Rattle.record.specs.Rules.{kindIn, shapeIn};
-ghost use Rattle.record.specs.Kinds.{numbersOf, carbonateItem, heatItem, fuelItem, fuelIn, carbonateIn, heatIn, plainIn};
+ghost use Rattle.kind.specs.Faults.{refusalOf};
+ghost use Rattle.kind.specs.Subject.{kindIn, shapeIn};
+ghost use Rattle.kind.specs.Kinds.{numbersOf, carbonateItem, heatItem, fuelItem, fuelIn, carbonateIn, heatIn, plainIn};
 use super::Carbonate;
 use super::Fuel;
 use super::Heat;
 use super::Kind;
-use crate::fault::RecordFault;
+use crate::fault::KindFault;
 use reading::Shape;
 
 impl Fuel {
-    pub fn new(row: u8) -> Result<Fuel, RecordFault>
+    pub fn new(row: u8) -> Result<Fuel, KindFault>
         ensures { λ r. ⌜ said fuelItem refusalOf r ≡ fuelIn row ⌝ }
     {
         if 1 <= row && row <= 21 {
             Ok(Fuel { row })
         } else {
-            Err(RecordFault::KindUnknown)
+            Err(KindFault::KindUnknown)
         }
     }
 
@@ -29,14 +29,14 @@ impl Fuel {
 }
 
 impl Carbonate {
-    pub fn new(item: u8) -> Result<Carbonate, RecordFault>
+    pub fn new(item: u8) -> Result<Carbonate, KindFault>
         ensures { λ r. ⌜ said carbonateItem refusalOf r ≡ carbonateIn item ⌝ }
     {
         match item {
             1 => Ok(Carbonate::Calcium),
             2 => Ok(Carbonate::SodiumBicarbonate),
             3 => Ok(Carbonate::Other),
-            _ => Err(RecordFault::KindUnknown),
+            _ => Err(KindFault::KindUnknown),
         }
     }
 
@@ -52,14 +52,14 @@ impl Carbonate {
 }
 
 impl Heat {
-    pub fn new(item: u8) -> Result<Heat, RecordFault>
+    pub fn new(item: u8) -> Result<Heat, KindFault>
         ensures { λ r. ⌜ said heatItem refusalOf r ≡ heatIn item ⌝ }
     {
         match item {
             0 => Ok(Heat::Energy),
             1 => Ok(Heat::HotWater),
             2 => Ok(Heat::SaturatedSteam),
-            _ => Err(RecordFault::KindUnknown),
+            _ => Err(KindFault::KindUnknown),
         }
     }
 
@@ -86,7 +86,7 @@ impl Heat {
 
 impl Kind {
     // The kind of a number, with its item.
-    pub fn new(kind: u8, item: u8) -> Result<Kind, RecordFault>
+    pub fn new(kind: u8, item: u8) -> Result<Kind, KindFault>
         ensures { λ r. ⌜ said numbersOf refusalOf r ≡ kindIn kind item ⌝ }
     {
         match kind {
@@ -99,7 +99,7 @@ impl Kind {
     }
 
     // The kinds whose one item is 0.
-    fn without_item(kind: u8, item: u8) -> Result<Kind, RecordFault>
+    fn without_item(kind: u8, item: u8) -> Result<Kind, KindFault>
         ensures { λ r. ⌜ said numbersOf refusalOf r ≡ plainIn kind item ⌝ }
     {
         match (kind, item) {
@@ -107,7 +107,7 @@ impl Kind {
             (4, 0) => Ok(Kind::WastewaterTreated),
             (5, 0) => Ok(Kind::PowerBought),
             (6, 0) => Ok(Kind::PowerSold),
-            _ => Err(RecordFault::KindUnknown),
+            _ => Err(KindFault::KindUnknown),
         }
     }
 

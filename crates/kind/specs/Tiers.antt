@@ -1,7 +1,7 @@
 -- The letters of the tiers.
 use Prim.Native.Nat.{ℕ}
-use Rattle.record.specs.declared.tier.Tier.{Tier}
-use Rattle.record.specs.declared.tier.Tier.the-variants.{Measured, Default}
+use Rattle.kind.specs.declared.tiers.Tier.{Tier}
+use Rattle.kind.specs.declared.tiers.Tier.the-variants.{Measured, Default}
 
 -- the codes of the letters M and D
 abbrev pub letterOf : Tier → ℕ

@@ -7,13 +7,13 @@ use Rattle.std.specs.declared.result.Result.the-variants.{Ok, Err}
 use Rattle.refusal.specs.declared.Refusal.{Refusal}
 use Rattle.refusal.specs.declared.Layer.the-variants.{Record}
 use Rattle.refusal.specs.Said.{refusal}
-use Rattle.record.specs.declared.kind.Fuel.{Fuel}
-use Rattle.record.specs.declared.kind.Carbonate.{Carbonate}
-use Rattle.record.specs.declared.kind.Carbonate.the-variants.{Calcium, SodiumBicarbonate, Other}
-use Rattle.record.specs.declared.kind.Heat.{Heat}
-use Rattle.record.specs.declared.kind.Heat.the-variants.{Energy, HotWater, SaturatedSteam}
-use Rattle.record.specs.declared.kind.Kind.{Kind}
-use Rattle.record.specs.declared.kind.Kind.the-variants.{FuelBurnt, CarbonateUsed, BoughtCo2, WastewaterTreated, PowerBought, PowerSold, HeatBought, HeatSold}
+use Rattle.kind.specs.declared.kinds.Fuel.{Fuel}
+use Rattle.kind.specs.declared.kinds.Carbonate.{Carbonate}
+use Rattle.kind.specs.declared.kinds.Carbonate.the-variants.{Calcium, SodiumBicarbonate, Other}
+use Rattle.kind.specs.declared.kinds.Heat.{Heat}
+use Rattle.kind.specs.declared.kinds.Heat.the-variants.{Energy, HotWater, SaturatedSteam}
+use Rattle.kind.specs.declared.kinds.Kind.{Kind}
+use Rattle.kind.specs.declared.kinds.Kind.the-variants.{FuelBurnt, CarbonateUsed, BoughtCo2, WastewaterTreated, PowerBought, PowerSold, HeatBought, HeatSold}
 
 abbrev pub fuelItem : Fuel → ℕ
 fuelItem fuel = fuel .row

@@ -1,9 +1,9 @@
 ghost use mathlib.Core.Path.{_≡_};
 ghost use Rattle.refusal.specs.Said.{said};
-ghost use Rattle.record.specs.Faults.{refusalOf};
-ghost use Rattle.record.specs.Rules.{tierIn};
-ghost use Rattle.record.specs.Tiers.{letterOf};
-use crate::fault::RecordFault;
+ghost use Rattle.kind.specs.Faults.{refusalOf};
+ghost use Rattle.kind.specs.Subject.{tierIn};
+ghost use Rattle.kind.specs.Tiers.{letterOf};
+use crate::fault::KindFault;
 
 // Where a record's factor comes from: measured at the plant, or a default.
 #[derive(Clone, Copy, PartialEq, Eq, Debug)]
@@ -13,13 +13,13 @@ pub enum Tier {
 }
 
 impl Tier {
-    pub fn from_letter(letter: char) -> Result<Tier, RecordFault>
+    pub fn from_letter(letter: char) -> Result<Tier, KindFault>
         ensures { λ r. ⌜ said letterOf refusalOf r ≡ tierIn letter ⌝ }
     {
         match letter {
             'M' => Ok(Tier::Measured),
             'D' => Ok(Tier::Default),
-            _ => Err(RecordFault::TierUnknown),
+            _ => Err(KindFault::TierUnknown),
         }
     }
 

@@ -1,0 +1,4 @@
+pub mod Faults
+pub mod Subject
+pub mod Kinds
+pub mod Tiers
