@@ -26,3 +26,10 @@ pub at-most : (over under n : ℕ) → 0 < under → over ≤ n * under → near
 at-most over under n u h =
     let below : nearest over under < n + 1 = div-lt-iff-lt-mul {k = 2 * under} {x = 2 * over + under} {y = n + 1} (omega arith) .1 (omega arith) in
     omega arith
+
+-- a whole part and a rest below the half, and one of a half or more
+pub down : (over under q r : ℕ) → 1 ≤ under → q * under + r ≡ over → r + r < under → q ≡ nearest over under
+down over under q r u e h = only over under q u (omega arith, omega arith)
+
+pub up : (over under q r : ℕ) → 1 ≤ under → q * under + r ≡ over → r < under → under ≤ r + r → q + 1 ≡ nearest over under
+up over under q r u e l h = only over under (q + 1) u (omega arith, omega arith)
