@@ -1,0 +1,4 @@
+pub mod Exact
+pub mod Within
+pub mod Bounds
+pub mod Entered

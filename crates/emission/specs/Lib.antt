@@ -1,0 +1,9 @@
+pub mod Fraction
+pub mod Formulas
+pub mod Parts
+pub mod Laws
+pub mod Emission
+pub mod Faults
+pub mod Entries
+pub mod Views
+pub mod Figures

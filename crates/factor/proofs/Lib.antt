@@ -1,0 +1,3 @@
+mod Limited
+mod TableLimits
+mod FirstRow

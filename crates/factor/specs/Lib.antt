@@ -1,0 +1,7 @@
+pub mod Limits
+pub mod Classes
+pub mod Questions
+pub mod Faults
+pub mod Printed
+pub mod PlantRows
+pub mod Laws

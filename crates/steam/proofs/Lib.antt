@@ -1,0 +1,4 @@
+mod Rows
+mod Weights
+mod Search
+pub mod Values

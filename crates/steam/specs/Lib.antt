@@ -1,0 +1,3 @@
+pub mod Table
+pub mod Line
+pub mod Laws
