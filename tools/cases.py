@@ -11,6 +11,7 @@ The input is a run of cases. Numbers have their high byte first. The first byte 
                  the set's readings (4 each; 1, 2, 2 or 5 of them),
                  name length (1), name, buffer length (1)
     2  calendar  year (2), day (2)
+    3  entry     a source and a frame, as figures.py says
 
 The output has one line per case:
 
@@ -21,8 +22,9 @@ The output has one line per case:
               the record is written again with the frame's name; these bytes are the frame's own.
     write     `frame HEX` or a refusal
     calendar  `month MONTH` or a refusal
+    entry     the entry or a refusal, as figures.py says
 
-A refusal is `refused LAYER NUMBER PLACE`. The answers come from expected.py alone.
+A refusal is `refused LAYER NUMBER PLACE`. The answers come from expected.py and emissions.py alone.
 """
 
 import sys
@@ -40,6 +42,9 @@ import files
 from expected import Record, Refused
 
 LARGEST_INPUT = 120_000
+
+# The sort of a case that asks for an entry; figures.py makes these.
+ENTRY = 3
 
 SET_NUMBERS = {"amount": 0, "water": 1, "steam": 2, "wastewater": 3}
 
@@ -684,9 +689,13 @@ def check_reach(cases: Cases) -> None:
 
 
 def main(arguments: list[str]) -> int:
+    import figures  # here, since it builds on this module
+
     check_figures()
     cases = generate()
     check_reach(cases)
+    for case, answer in figures.answers().items():
+        cases.answers[bytes([ENTRY]) + case] = answer
     sent = b"".join(cases.answers)
     answers = "".join(answer + "\n" for answer in cases.answers.values())
     assert len(sent) < LARGEST_INPUT
@@ -694,7 +703,10 @@ def main(arguments: list[str]) -> int:
         {"crates/cases/stdin": sent, "crates/cases/stdout": answers.encode("ascii")}, arguments
     )
     sorts = Counter(case[0] for case in cases.answers)
-    print(f"{sorts[0]} frame cases, {sorts[1]} write cases, {sorts[2]} calendar cases, {len(sent)} bytes")
+    print(
+        f"{sorts[0]} frame cases, {sorts[1]} write cases, {sorts[2]} calendar cases, {sorts[ENTRY]} entry cases, "
+        f"{len(sent)} bytes"
+    )
     return status
 
 

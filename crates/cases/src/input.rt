@@ -1,3 +1,4 @@
+use factor::PlantRow;
 use std::error::AnyError;
 
 // The bytes that are left of the input.
@@ -37,20 +38,32 @@ impl<'i> Input<'i> {
         Ok(u16::from(high) * 256 + u16::from(low))
     }
 
-    pub fn reading(&mut self) -> Result<f32, AnyError> {
+    fn double_word(&mut self) -> Result<u32, AnyError> {
         let high = self.word()?;
         let low = self.word()?;
-        let [a, b] = high.to_be_bytes();
-        let [c, d] = low.to_be_bytes();
-        Ok(reading::from_bytes([a, b, c, d]))
+        Ok(u32::from(high) * 65536 + u32::from(low))
+    }
+
+    pub fn reading(&mut self) -> Result<f32, AnyError> {
+        Ok(reading::from_bytes(self.double_word()?.to_be_bytes()))
     }
 
     pub fn letter(&mut self) -> Result<char, AnyError> {
-        let high = self.word()?;
-        let low = self.word()?;
-        match char::from_u32(u32::from(high) * 65536 + u32::from(low)) {
+        match char::from_u32(self.double_word()?) {
             Some(letter) => Ok(letter),
             None => Err("no character".into()),
         }
+    }
+
+    pub fn row(&mut self) -> Result<PlantRow, AnyError> {
+        Ok(PlantRow {
+            class: self.byte()?,
+            item: self.byte()?,
+            tier: self.letter()?,
+            first_year: self.word()?,
+            last_year: self.word()?,
+            rate: self.double_word()?,
+            share: self.word()?,
+        })
     }
 }

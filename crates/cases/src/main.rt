@@ -1,10 +1,13 @@
 // Reads generated cases from standard input and prints what the library answers to each, one line to a case.
 mod answers;
+mod entries;
 mod input;
+mod text;
 
 use answers::calendar_case;
 use answers::frame_case;
 use answers::write_case;
+use entries::entry_case;
 use input::Input;
 use std::error::AnyError;
 use std::io::Read;
@@ -14,6 +17,7 @@ fn answer(rt: &LibcRuntime, input: &mut Input<'_>) -> Result<(), AnyError> {
         0 => frame_case(rt.alloc(), input)?,
         1 => write_case(rt.alloc(), input)?,
         2 => calendar_case(rt.alloc(), input)?,
+        3 => entry_case(rt.alloc(), input)?,
         _ => return Err("no such case".into()),
     };
     rt.println(line.as_str())?;

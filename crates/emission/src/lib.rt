@@ -1,6 +1,7 @@
 // Exact emissions in whole parts of a gram, and their grams, rounded once.
 mod entry;
 mod fault;
+mod figures;
 mod formulas;
 mod laws;
 mod measured;
@@ -12,6 +13,6 @@ pub use fault::EmissionFault;
 pub use fault::EmissionFaultDebug;
 pub use fault::EmissionFaultPartialEq;
 pub use fault::EmissionFromFactor;
-pub use laws::figures_stand;
+pub use figures::figures_stand;
 pub use laws::parts_stand;
 pub use measured::entry_of;

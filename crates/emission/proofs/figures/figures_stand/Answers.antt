@@ -1,7 +1,7 @@
 use mathlib.Core.Path.{refl}
 use Rattle.steam.specs.Table.{rows}
 use Rattle.steam.specs.Line.{enthalpy}
-use Rattle.emission.proofs.laws.figures_stand.Needs as need
+use Rattle.emission.proofs.figures.figures_stand.Needs as need
 
 pub returns : need.returns
 unfolding rows enthalpy
