@@ -1,3 +1,3 @@
-mod Limited
-mod TableLimits
-mod FirstRow
+pub mod Limited
+pub mod TableLimits
+pub mod FirstRow

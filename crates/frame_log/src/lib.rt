@@ -1,11 +1,14 @@
 // A log of frames: a year in two bytes, then frames, each after its length in two bytes, high bytes first.
 // Its frames are counted by whether they read as lawful records of that year.
+mod laws;
+
+pub use laws::logs_stand;
 ghost use mathlib.Core.Path.{_≡_};
 ghost use mathlib.Core.List.{_++_};
 ghost use Prim.Native.Nat.{_+_, _≤_, _<_};
 ghost use lib.ListN.{length};
 ghost use Rattle.std.specs.Options.{Cases as BySome};
-ghost use Rattle.frame_log.specs.Log.{framed, Ended, takenBy, Counted, CountedIn, Spells-once};
+ghost use Rattle.frame_log.specs.Log.{framed, Ended, takenBy, Counted, CountedIn};
 use calendar::Year;
 use record::read;
 
@@ -90,14 +93,6 @@ pub fn count(log: &[u8]) -> Counts
         Ok(year) => count_frames(year, rest),
         Err(_) => none,
     }
-}
-
-// A log spells one list of frames, so its counts are determined.
-pub fn logs_stand() -> u8
-    ensures zero { λ r. ⌜ r ≡ 0 ⌝ }
-    ensures once { λ _. ⌜ Spells-once ⌝ }
-{
-    0
 }
 
 #[cfg(test)]

@@ -1,4 +1,7 @@
 // Records and frames are two forms of one thing: what is written reads back, and what was read is written again.
+mod laws;
+
+pub use laws::records_stand;
 ghost use mathlib.Core.Path.{_≡_};
 ghost use Prim.Native.Nat.{ℕ};
 ghost use lib.ListN.{length, take};
@@ -8,7 +11,7 @@ ghost use Rattle.refusal.specs.Said.{said};
 ghost use Rattle.frame.specs.Reading.{nameOf};
 ghost use Rattle.record.specs.Faults.{refusalOf};
 ghost use Rattle.record.specs.Records.{recordIn, recordBytes, writeSays, left};
-ghost use Rattle.record_laws.specs.Laws.{Written-reads, Read-writes, Read-lawful, copySays, ReadsBack};
+ghost use Rattle.record_laws.specs.Laws.{copySays, ReadsBack};
 use record::RawRecord;
 use record::RecordFault;
 use record::RecordFromFrame;
@@ -32,16 +35,6 @@ pub fn copy_frame(frame: &[u8], out: &mut [u8]) -> Result<usize, RecordFault>
     let record = read(frame)?;
     let name = frame::name(frame)?;
     write(record.raw(), name, out)
-}
-
-// The two ways as theorems over every record, name and byte string.
-pub fn records_stand() -> u8
-    ensures zero { λ r. ⌜ r ≡ 0 ⌝ }
-    ensures written { λ _. ⌜ Written-reads ⌝ }
-    ensures read { λ _. ⌜ Read-writes ⌝ }
-    ensures lawful { λ _. ⌜ Read-lawful ⌝ }
-{
-    0
 }
 
 #[cfg(test)]

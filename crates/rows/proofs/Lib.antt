@@ -1,1 +1,1 @@
-mod Append
+pub mod Append

@@ -61,10 +61,7 @@ impl<'m, T: Copy> Rows<'m, T> {
     pub fn as_slice(&self) -> &[T]
         ensures { λ r. ⌜ now r ≡ held (now (now (self .entry) .rows)) (now (self .entry) .length) ⌝ }
     {
-        if self.length <= self.rows.len() {
-            &self.rows[0..self.length]
-        } else {
-            &self.rows[..]
-        }
+        let end = self.length.min(self.rows.len());
+        &self.rows[0..end]
     }
 }

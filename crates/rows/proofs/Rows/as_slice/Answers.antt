@@ -1,7 +1,5 @@
-use mathlib.Core.Path.{sym}
-use native.Mathlib.Omega.{arith}
-use Rattle.std.proofs.shelf.Lists.{take-all}
+use Rattle.rows.proofs.Append.{front}
 use Rattle.rows.proofs.Rows.as_slice.Needs as need
 
-pub returns-else-self : need.returns-else-self
-returns-else-self g c = sym (take-all (c .args .self .now .length) (c .args .self .now .rows .now) (omega arith))
+pub returns : need.returns
+returns g c = front (c .args .self .now .rows .now) (c .args .self .now .length) (c .min-end .result) (c .min-end .ensures)
