@@ -99,7 +99,7 @@ PRINTED_FUELS = {
     1: printed_fuel("26.700", "27.40", 94),  # anthracite
     2: printed_fuel("19.570", "26.10", 93),  # bituminous coal
     3: printed_fuel("11.900", "28.00", 96),  # lignite
-    4: printed_fuel("26.344", "25.41", 90),  # cleaned coal
+    4: printed_fuel("26.344", "25.41", 90),  # washed coal
     5: printed_fuel("12.545", "25.41", 90),  # other washed coal
     6: printed_fuel("17.460", "33.60", 90),  # briquettes
     7: printed_fuel("28.435", "29.50", 93),  # coke
@@ -110,7 +110,7 @@ PRINTED_FUELS = {
     12: printed_fuel("43.070", "19.60", 98),  # kerosene
     13: printed_fuel("44.200", "17.20", 98),  # liquefied natural gas
     14: printed_fuel("50.179", "17.20", 98),  # liquefied petroleum gas
-    15: printed_fuel("45.998", "18.20", 98),  # refinery dry gas
+    15: printed_fuel("45.998", "18.20", 98),  # refinery gas
     16: printed_fuel("33.453", "22.00", 98),  # coal tar
     17: printed_fuel("179.810", "13.58", 99),  # coke oven gas
     18: printed_fuel("33.000", "70.80", 99),  # blast furnace gas
