@@ -1,4 +1,6 @@
 // A year's book: frames are offered to it and booked, entries withdrawn, months held, released and closed, and its lines read.
+#![tactic(auto)]
+
 mod book;
 mod total;
 

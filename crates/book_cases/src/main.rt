@@ -1,4 +1,6 @@
 // Reads generated calls from standard input, makes them of books, and prints what each is answered, one line to a call.
+#![tactic(auto)]
+
 mod changes;
 mod figures;
 

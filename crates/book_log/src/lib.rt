@@ -1,5 +1,7 @@
 // A log of frames: a year in two bytes, then frames, each after its length in two bytes, high bytes first.
 // Its frames are offered to the book of that year, one after another.
+#![tactic(auto)]
+
 mod heading;
 mod offering;
 

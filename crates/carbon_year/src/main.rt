@@ -1,4 +1,6 @@
 // Reads a log of frames from standard input and prints its year and how many frames were taken and refused.
+#![tactic(auto)]
+
 use frame_log::count;
 use std::io::Read;
 

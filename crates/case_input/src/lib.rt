@@ -1,4 +1,6 @@
 // What the programs that run generated cases share: their input, rows of a plant list, and the text of a refusal.
+#![tactic(auto)]
+
 mod input;
 mod text;
 

@@ -1,4 +1,6 @@
 // Reads generated cases from standard input and prints what the library answers to each, one line to a case.
+#![tactic(auto)]
+
 mod answers;
 mod entries;
 mod text;

@@ -1,4 +1,6 @@
 // Exact emissions in whole parts of a gram, and their grams, rounded once.
+#![tactic(auto)]
+
 mod entry;
 mod fault;
 mod figures;

@@ -1,5 +1,7 @@
 // Factors and the sources that hold them.
 // A question names what a factor is asked for; a source answers it or holds nothing for it.
+#![tactic(auto)]
+
 mod fault;
 mod plant;
 mod printed;

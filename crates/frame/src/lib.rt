@@ -1,5 +1,7 @@
 // The frame layer: a frame is a run of fields with rising tags.
 // It is read into fields that borrow from it, and written from fields into a buffer.
+#![tactic(auto)]
+
 mod fault;
 mod field;
 mod fields;

@@ -1,5 +1,7 @@
 // What the frame layer's definitions say in the words of the format:
 // which byte strings are frames, and which fault a refusal names.
+#![tactic(auto)]
+
 ghost use Rattle.std.specs.Prelude.{◌≡◌};
 ghost use Rattle.frame_laws.specs.Laws.{Accepts, Refuses, RefusesAsFrame};
 

@@ -1,5 +1,7 @@
 // A log of frames: a year in two bytes, then frames, each after its length in two bytes, high bytes first.
 // Its frames are counted by whether they read as lawful records of that year.
+#![tactic(auto)]
+
 mod laws;
 
 ghost use Rattle.std.specs.Prelude.{◌≡◌, ◌+◌, ◌<◌, ◌≤◌, ◌++◌, length, MatchOption};

@@ -1,4 +1,6 @@
 // The journal's rows, and what the calls of a year's book give and refuse.
+#![tactic(auto)]
+
 mod fault;
 mod row;
 

@@ -1,5 +1,7 @@
 // What a record is about: its kind with its item, and the tier of its factor.
 // Numbers and letters stand only at the edge; inside they are enums.
+#![tactic(auto)]
+
 mod fault;
 mod kinds;
 mod tiers;

@@ -1,5 +1,7 @@
 // The twelve months of a year's book: each has a state, and figures in seven lines.
 // A month's state says which changes it takes.
+#![tactic(auto)]
+
 mod account;
 mod line;
 mod state;

@@ -1,5 +1,7 @@
 // Readings as they are delivered: binary32 numbers of IEEE 754.
 // Which are lawful, which quantity each stands for, and their bytes.
+#![tactic(auto)]
+
 mod binary32;
 mod decoded;
 mod encoded;

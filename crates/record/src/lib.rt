@@ -1,5 +1,7 @@
 // The record layer: what a meter's frame records, read from a frame and written as one.
 // A record is lawful by its type; a raw record is what a host states, lawful or not.
+#![tactic(auto)]
+
 mod fault;
 mod heading;
 mod raw;

@@ -1,4 +1,6 @@
 // Records and frames are two forms of one thing: what is written reads back, and what was read is written again.
+#![tactic(auto)]
+
 mod laws;
 
 ghost use Rattle.std.specs.Prelude.{◌≡◌, ℕ, length, take, IfOk, Ok};

@@ -1,4 +1,6 @@
 // What every refusal of the ledger says: which layer refuses, by which number, and where.
+#![tactic(auto)]
+
 ghost use Rattle.std.specs.Prelude.{◌≡◌, codes};
 ghost use Rattle.refusal.specs.Words.{word};
 

@@ -1,4 +1,6 @@
 // The whole number nearest to a fraction, and the laws that other crates round by.
+#![tactic(auto)]
+
 ghost use Rattle.std.specs.Prelude.{◌≡◌, if◌then◌else◌, Some, None, nat_eq};
 ghost use Rattle.rounding.specs.Laws.{Stands};
 ghost use Rattle.rounding.specs.Nearest.{nearest};

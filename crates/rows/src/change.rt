@@ -1,4 +1,4 @@
-ghost use Rattle.std.specs.Prelude.{◌≡◌, ◌<◌, ◌≤◌, true, false, length as length_of, if◌then◌else◌, MatchResult, slice_set};
+ghost use Rattle.std.specs.Prelude.{◌≡◌, ◌<◌, ◌≤◌, true, false, length as length_of, MatchBool, MatchResult, slice_set};
 ghost use Rattle.rows.specs.Held.{Appended, Refused, Replaced, Kept};
 
 use super::{Full, Rows};
@@ -34,7 +34,7 @@ impl<'m, T: Copy> Rows<'m, T> {
     pub fn put(&mut self, at: usize, row: T) -> bool
         ensures memory { self.new.rows.ghost_name ≡ self.old.rows.ghost_name }
         ensures count { self.new.length ≡ self.old.length }
-        ensures change { if result then Replaced row self.old.rows.now self.old.length at self.new.rows.now else Kept self.old.rows.now self.old.length at self.new.rows.now }
+        ensures change { MatchBool result (Replaced row self.old.rows.now self.old.length at self.new.rows.now) (Kept self.old.rows.now self.old.length at self.new.rows.now) }
     {
         if at < self.length {
             store(self.rows, at, row)

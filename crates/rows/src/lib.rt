@@ -1,4 +1,6 @@
 // An append list over memory that the host lends: rows of any one type, in the order in which they were appended.
+#![tactic(auto)]
+
 ghost use Rattle.std.specs.Prelude.{◌≡◌, length as length_of, MatchOption};
 ghost use Rattle.rows.specs.Held.{held, Absent, Row};
 

@@ -1,4 +1,6 @@
 // A year's book opened with the law that it keeps over every list of calls, and lists of calls replayed.
+#![tactic(auto)]
+
 mod call;
 mod opening;
 mod replaying;

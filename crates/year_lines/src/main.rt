@@ -1,5 +1,7 @@
 // Reads a log of frames from standard input, offers them to the book of its year, and prints how many were taken and
 // refused, then the year's lines and its net total: how many entries stand in each, and their tonnes.
+#![tactic(auto)]
+
 mod tonnes;
 
 use anyhow::anyhow;

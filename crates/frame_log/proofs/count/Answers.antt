@@ -6,4 +6,4 @@ use Rattle.frame_log.proofs.count.Goals as goal
 pub returns-in-Ok : goal.returns-in-Ok
 returns-in-Ok c =
     let log = c.args.log.now in
-    lawful_log log _ (c.from.result * 256 + c.from-2.result) c.in-Ok.year.number _ _ _ (search rules) (take_rest log 2) (search rules) c.in-Ok.ensures.gives c.count-frames.ensures
+    lawful_log log _ (c.from.result * 256 + c.from-2.result) c.in-Ok.year.number _ _ _ (search rules) (take_rest log 2) (search rules) c.in-Ok.ensures.gives c.count_frames.ensures

@@ -3,7 +3,7 @@ use Rattle.std.proofs.lemmas.List.{length-append}
 use Rattle.frame_log.specs.Log.{taken_by}
 use Rattle.frame_log.proofs.Along.{along_more}
 use Rattle.frame_log.proofs.count_frames.Goals as goal
-use Rattle.frame_log.proofs.count_frames.Goals.{then-is-taken, else-is-taken}
+use Rattle.frame_log.proofs.count_frames.Goals.{then-is_taken, else-is_taken}
 
 pub loop-next-smaller : goal.loop-next-smaller
 loop-next-smaller c =
@@ -15,9 +15,9 @@ pub loop-next-preserved : goal.loop-next-preserved
 loop-next-preserved c =
     let n = c.in-Some.next in
     let e = c.in-Some.ensures in
-    elim c.if-is-taken.branch [
-      | then-is-taken w ↦ along_more c.args.year.number c.args.log.now c.loop-next.taken c.loop-next.refused c.loop-next.rest.now n.frame.now n.rest.now true
-          c.if-is-taken.taken c.if-is-taken.refused c.loop-next.invariant e.0 e.1 w.if-is-taken.ensures (omega (arith, w.taken-is)) (omega (arith, w.refused-is))
-      | else-is-taken w ↦ along_more c.args.year.number c.args.log.now c.loop-next.taken c.loop-next.refused c.loop-next.rest.now n.frame.now n.rest.now false
-          c.if-is-taken.taken c.if-is-taken.refused c.loop-next.invariant e.0 e.1 w.if-is-taken.ensures (omega (arith, w.taken-is)) (omega (arith, w.refused-is))
+    elim c.if-is_taken.branch [
+      | then-is_taken w ↦ along_more c.args.year.number c.args.log.now c.loop-next.taken c.loop-next.refused c.loop-next.rest.now n.frame.now n.rest.now true
+          c.if-is_taken.taken c.if-is_taken.refused c.loop-next.invariant e.0 e.1 w.if-is_taken.ensures (omega (arith, w.taken-is)) (omega (arith, w.refused-is))
+      | else-is_taken w ↦ along_more c.args.year.number c.args.log.now c.loop-next.taken c.loop-next.refused c.loop-next.rest.now n.frame.now n.rest.now false
+          c.if-is_taken.taken c.if-is_taken.refused c.loop-next.invariant e.0 e.1 w.if-is_taken.ensures (omega (arith, w.taken-is)) (omega (arith, w.refused-is))
     ]

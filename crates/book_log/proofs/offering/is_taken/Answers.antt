@@ -8,7 +8,7 @@ pub returns : goal.returns
 returns g c =
     let o = c.offer.ensures in
     record {
-      offered = subst (λ (b : Bool). Offered (c.args.frame.now ∷ []) (g.S.Source.table c.args.source.now) (contents_of c.args.book.now) (cond b 1 0) (contents_of c.offer.new.self)) (sym c.is-ok.ensures.value) (offered_one c.offer.result o.follows);
+      offered = subst (λ (b : Bool). Offered (c.args.frame.now ∷ []) (g.S.Source.table c.args.source.now) (contents_of c.args.book.now) (cond b 1 0) (contents_of c.offer.new.self)) (sym c.is_ok.ensures.value) (offered_one c.offer.result o.follows);
       same = o.same;
       memory = o.memory;
     }

@@ -2,8 +2,8 @@ use Rattle.std.proofs.Common.{arith}
 use Rattle.steam.proofs.Values.{bounded}
 use Rattle.emission.proofs.formulas.saturated_steam.Goals as goal
 
-pub overflow-mul-enthalpy : goal.overflow-mul-enthalpy
-overflow-mul-enthalpy c = record { fits = omega (arith, (bounded _ _ _ c.in-Some.ensures.within).narrow) }
+pub overflow_mul-enthalpy : goal.overflow_mul-enthalpy
+overflow_mul-enthalpy c = record { fits = omega (arith, (bounded _ _ _ c.in-Some.ensures.within).narrow) }
 
-pub nonzero-div-enthalpy : goal.nonzero-div-enthalpy
-nonzero-div-enthalpy c = omega (arith, (bounded _ _ _ c.in-Some.ensures.within).positive)
+pub nonzero_div-enthalpy : goal.nonzero_div-enthalpy
+nonzero_div-enthalpy c = omega (arith, (bounded _ _ _ c.in-Some.ensures.within).positive)

@@ -19,5 +19,5 @@ returns-in-len1-bytes c = record { tag = search rules; bytes = one_byte c.args.b
 pub returns-in-len1-bytes-2 : goal.returns-in-len1-bytes-2
 returns-in-len1-bytes-2 c = record { tag = search rules; bytes = one_byte c.args.bytes.now (search rules) }
 
-pub returns-in-Some-first-chunk : goal.returns-in-Some-first-chunk
-returns-in-Some-first-chunk c = record { tag = search rules; bytes = front_all c.args.bytes.now c.in-Some-first-chunk.share.now 2 c.in-Some-first-chunk.ensures.cases (search rules) }
+pub returns-in-Some-first_chunk : goal.returns-in-Some-first_chunk
+returns-in-Some-first_chunk c = record { tag = search rules; bytes = front_all c.args.bytes.now c.in-Some-first_chunk.share.now 2 c.in-Some-first_chunk.ensures.cases (search rules) }

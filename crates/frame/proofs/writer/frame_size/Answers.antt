@@ -3,11 +3,11 @@ use Rattle.frame.specs.Views.{parts_of}
 use Rattle.frame.proofs.Sizes.{measured, length_written, length_share}
 use Rattle.frame.proofs.writer.frame_size.Goals as goal
 
-pub name-size-requires : goal.name-size-requires
-name-size-requires c = (measured (parts_of c.args.fields) c.requires).name_16
+pub name_size-requires : goal.name_size-requires
+name_size-requires c = (measured (parts_of c.args.fields) c.requires).name_16
 
 pub returns : goal.returns
 returns c =
     let p = parts_of c.args.fields in
     let m = measured p c.requires in
-    omega (arith, length_written p, c.share-size.ensures, c.name-size.ensures)
+    omega (arith, length_written p, c.share_size.ensures, c.name_size.ensures)

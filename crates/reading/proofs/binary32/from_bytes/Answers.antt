@@ -9,7 +9,7 @@ use Rattle.reading.proofs.binary32.from_bytes.Goals as goal
 
 pub returns : goal.returns
 returns c =
-    let value : c.f32-from-bits-with-nan.result ≡ decode c.args.bytes = cc in
+    let value : c.f32_from_bits_with_nan.result ≡ decode c.args.bytes = cc in
     let b = c.args.bytes in
     let four : Bytes4 (get_or b 0 0) (get_or b 1 0) (get_or b 2 0) (get_or b 3 0) = (search rules, search rules, search rules, search rules) in
     let fit : word b < 2 ^ 32 = omega arith in

@@ -5,5 +5,5 @@ use Rattle.reading.proofs.binary32.to_bytes.Goals as goal
 
 pub returns : goal.returns
 returns c =
-    let value : c.to-be-bytes.result ≡ encode c.args.x = cc in
-    record { value = value; back = ap decode value ∙ decode_encode c.args.x (subst T (sym c.well-formed.0.1) tt) }
+    let value : c.to_be_bytes.result ≡ encode c.args.x = cc in
+    record { value = value; back = ap decode value ∙ decode_encode c.args.x (subst T (sym c.well_formed.0.1) tt) }

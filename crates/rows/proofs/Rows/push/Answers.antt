@@ -6,6 +6,6 @@ pub returns-then-store : goal.returns-then-store
 returns-then-store g c =
     let s = c.store.ensures.stored c.if-store.true in
     record {
-      memory = refl {a = c.args.self.now.rows.name};
+      memory = refl {a = c.args.self.now.rows.ghost_name};
       change = (refl, appended c.args.row c.args.self.now.rows.now c.args.self.now.length c.store.new.rows s.0 s.1);
     }

@@ -6,14 +6,14 @@ use Rattle.steam.proofs.Search.{Passed, begin, next, found, lies, ended}
 use Rattle.steam.proofs.Values.{bounded}
 use Rattle.steam.proofs.line.saturated.Goals as goal
 
-pub returns-then-kilopascals-row-at : goal.returns-then-kilopascals-row-at
-returns-then-kilopascals-row-at c = record { within = inl (omega (arith, first)); gives = tt }
+pub returns-then-kilopascals-row_at : goal.returns-then-kilopascals-row_at
+returns-then-kilopascals-row_at c = record { within = inl (omega (arith, first)); gives = tt }
 
 pub loop-place-init : goal.loop-place-init
 loop-place-init c = begin c.args.kilopascals (omega arith)
 
-pub on-line-requires : goal.on-line-requires
-on-line-requires c =
+pub on_line-requires : goal.on_line-requires
+on_line-requires c =
     let p = c.args.kilopascals in
     let i = c.loop-place.place in
     let inside : i < 72 = omega arith in
@@ -35,10 +35,10 @@ returns-then-kilopascals-upper c =
     let inv = c.loop-place.invariant in
     let to : p ≤ (row_at i).0 = omega arith in
     let e : line p (row_at (i - 1)) (row_at i) ≡ enthalpy p = sym (found p i inside to inv) in
-    let lower = c.row-at-then-kilopascals-upper.ensures in
-    let upper = c.row-at-upper.ensures in
-    let over : c.on-line.result.over ≡ (row_at (i - 1)).1 * ((row_at i).0 - p) + (row_at i).1 * (p - (row_at (i - 1)).0) = cc in
-    let under : c.on-line.result.under ≡ (row_at i).0 - (row_at (i - 1)).0 = cc in
+    let lower = c.row_at-then-kilopascals-upper.ensures in
+    let upper = c.row_at-upper.ensures in
+    let over : c.on_line.result.over ≡ (row_at (i - 1)).1 * ((row_at i).0 - p) + (row_at i).1 * (p - (row_at (i - 1)).0) = cc in
+    let under : c.on_line.result.under ≡ (row_at i).0 - (row_at (i - 1)).0 = cc in
     record {
       within = record { a = row_at (i - 1); b = row_at i; between = lies p i (omega arith) inside to inv; on_line = record { numerator = over; denominator = under } };
       gives = (over ∙ ap (λ (f : ℕ × ℕ). f.0) e, under ∙ ap (λ (f : ℕ × ℕ). f.1) e);

@@ -16,9 +16,9 @@ pub loop-call-preserved : goal.loop-call-preserved
 loop-call-preserved g c =
     let ts : List Table = map g.S.Source.table c.args.sources.now in
     let i = c.loop-call.invariant in (
-      calls_more _ _ c.open-book.result.year.lawful ts c.args.calls.now c.loop-call.call-index _ (map g.S.Source.table c.loop-call.sources) _ _ (sound c.replay-call.new.book) c.loop-call-test.true i.1 i.0 c.replay-call.ensures.called,
-      c.replay-call.ensures.tables ∙ i.1,
-      c.replay-call.ensures.memory ∙ i.2,
+      calls_more _ _ c.open-book.result.year.lawful ts c.args.calls.now c.loop-call.call-index _ (map g.S.Source.table c.loop-call.sources) _ _ (sound c.replay_call.new.book) c.loop-call-test.true i.1 i.0 c.replay_call.ensures.called,
+      c.replay_call.ensures.tables ∙ i.1,
+      c.replay_call.ensures.memory ∙ i.2,
     )
 
 pub returns : goal.returns

@@ -8,91 +8,91 @@ use Rattle.book.specs.Views.{contents_of}
 use Rattle.book.proofs.Held.{sound}
 use Rattle.book.proofs.book.Book.offer.Goals as goal
 
-pub returns-in-err-lawful : goal.returns-in-err-lawful
-returns-in-err-lawful g c =
-    let p = err_from_is_err_and c.from-residual.result c.from-residual.ensures.1 in
-    let step = no_record (contents_of c.args.self.now) c.args.frame.now (g.S.Source.table c.args.source.now) _ c.in-err-lawful.ensures in
+pub returns-in_err-lawful : goal.returns-in_err-lawful
+returns-in_err-lawful g c =
+    let p = err_from_is_err_and c.from_residual.result c.from_residual.ensures.1 in
+    let step = no_record (contents_of c.args.self.now) c.args.frame.now (g.S.Source.table c.args.source.now) _ c.in_err-lawful.ensures in
     record { step = rw (p.1, p.2) step; follows = rw (p.1, p.2) (extends step); same = refl {a = g.S.Source.table c.args.source.now}; memory = refl {a = c.args.self.now.journal.rows.name} }
 
-pub returns-in-err-entry : goal.returns-in-err-entry
-returns-in-err-entry g c =
-    let p = err_from_is_err_and c.from-residual-in-err-entry.result c.from-residual-in-err-entry.ensures.1 in
-    let step = no_entry (contents_of c.args.self.now) c.args.frame.now (g.S.Source.table c.args.source.now) (raw_of c.in-ok-lawful.lawful) c.in-ok-lawful.ensures _ c.in-err-entry.ensures.gives in
-    record { step = rw (p.1, p.2) step; follows = rw (p.1, p.2) (extends step); same = c.entry-of.ensures.same; memory = refl {a = c.args.self.now.journal.rows.name} }
+pub returns-in_err-entry : goal.returns-in_err-entry
+returns-in_err-entry g c =
+    let p = err_from_is_err_and c.from_residual-in_err-entry.result c.from_residual-in_err-entry.ensures.1 in
+    let step = no_entry (contents_of c.args.self.now) c.args.frame.now (g.S.Source.table c.args.source.now) (raw_of c.in_ok-lawful.lawful) c.in_ok-lawful.ensures _ c.in_err-entry.ensures.gives in
+    record { step = rw (p.1, p.2) step; follows = rw (p.1, p.2) (extends step); same = c.entry_of.ensures.same; memory = refl {a = c.args.self.now.journal.rows.name} }
 
 pub returns-then-number : goal.returns-then-number
 returns-then-number g c =
     let b = contents_of c.args.self.now in
     let frame = c.args.frame.now in
     let table = g.S.Source.table c.args.source.now in
-    let entry = c.in-ok-entry.entry in
+    let entry = c.in_ok-entry.entry in
     let day = c.day-day.result in
-    let step = of_other_year b frame table (raw_of c.in-ok-lawful.lawful) c.in-ok-lawful.ensures entry c.in-ok-entry.ensures.gives c.number.result c.year.result.number day.year.number c.number-2.result c.number.ensures c.year.ensures c.day-day.ensures.year c.number-2.ensures c.if-number.true in
-    record { step = step; follows = extends step; same = c.entry-of.ensures.same; memory = refl {a = c.args.self.now.journal.rows.name} }
+    let step = of_other_year b frame table (raw_of c.in_ok-lawful.lawful) c.in_ok-lawful.ensures entry c.in_ok-entry.ensures.gives c.number.result c.year.result.number day.year.number c.number-2.result c.number.ensures c.year.ensures c.day-day.ensures.year c.number-2.ensures c.if-number.true in
+    record { step = step; follows = extends step; same = c.entry_of.ensures.same; memory = refl {a = c.args.self.now.journal.rows.name} }
 
-pub returns-in-default : goal.returns-in-default
-returns-in-default g c =
+pub returns-in_default : goal.returns-in_default
+returns-in_default g c =
     let b = contents_of c.args.self.now in
     let frame = c.args.frame.now in
     let table = g.S.Source.table c.args.source.now in
-    let entry = c.in-ok-entry.entry in
+    let entry = c.in_ok-entry.entry in
     let day = c.day-day.result in
     let m = c.month-month.result.number in
-    let ours = of_this_year b frame table (raw_of c.in-ok-lawful.lawful) c.in-ok-lawful.ensures entry c.in-ok-entry.ensures.gives c.number.result c.year.result.number day.year.number c.number-2.result c.number.ensures c.year.ensures c.day-day.ensures.year c.number-2.ensures day.number m c.day-day.ensures.day c.if-number.false c.month-month.ensures in
-    let step = in_no_open_month b frame table entry m ours c.state.result c.state.ensures c.in-default.not-Open in
-    record { step = step; follows = extends step; same = c.entry-of.ensures.same; memory = refl {a = c.args.self.now.journal.rows.name} }
+    let ours = of_this_year b frame table (raw_of c.in_ok-lawful.lawful) c.in_ok-lawful.ensures entry c.in_ok-entry.ensures.gives c.number.result c.year.result.number day.year.number c.number-2.result c.number.ensures c.year.ensures c.day-day.ensures.year c.number-2.ensures day.number m c.day-day.ensures.day c.if-number.false c.month-month.ensures in
+    let step = in_no_open_month b frame table entry m ours c.state.result c.state.ensures c.in_default.not-Open in
+    record { step = step; follows = extends step; same = c.entry_of.ensures.same; memory = refl {a = c.args.self.now.journal.rows.name} }
 
-pub returns-then-len-ge-MOST-ENTRIES : goal.returns-then-len-ge-MOST-ENTRIES
-returns-then-len-ge-MOST-ENTRIES g c =
+pub returns-then-len-ge-MOST_ENTRIES : goal.returns-then-len-ge-MOST_ENTRIES
+returns-then-len-ge-MOST_ENTRIES g c =
     let b = contents_of c.args.self.now in
     let frame = c.args.frame.now in
     let table = g.S.Source.table c.args.source.now in
-    let entry = c.in-ok-entry.entry in
+    let entry = c.in_ok-entry.entry in
     let day = c.day-day.result in
     let m = c.month-month.result.number in
-    let ours = of_this_year b frame table (raw_of c.in-ok-lawful.lawful) c.in-ok-lawful.ensures entry c.in-ok-entry.ensures.gives c.number.result c.year.result.number day.year.number c.number-2.result c.number.ensures c.year.ensures c.day-day.ensures.year c.number-2.ensures day.number m c.day-day.ensures.day c.if-number.false c.month-month.ensures in
-    let at-end : usable b.memory ≤ b.used = omega (arith, c.len.ensures, c.if-len-ge-MOST-ENTRIES.true) in
+    let ours = of_this_year b frame table (raw_of c.in_ok-lawful.lawful) c.in_ok-lawful.ensures entry c.in_ok-entry.ensures.gives c.number.result c.year.result.number day.year.number c.number-2.result c.number.ensures c.year.ensures c.day-day.ensures.year c.number-2.ensures day.number m c.day-day.ensures.day c.if-number.false c.month-month.ensures in
+    let at-end : usable b.memory ≤ b.used = omega (arith, c.len.ensures, c.if-len-ge-MOST_ENTRIES.true) in
     let step = in_full_journal b frame table entry m ours c.state.result c.state.ensures c.in-Open.is at-end b.memory b.used refl refl in
-    record { step = step; follows = extends step; same = c.entry-of.ensures.same; memory = refl {a = c.args.self.now.journal.rows.name} }
+    record { step = step; follows = extends step; same = c.entry_of.ensures.same; memory = refl {a = c.args.self.now.journal.rows.name} }
 
-pub returns-in-default-push : goal.returns-in-default-push
-returns-in-default-push g c =
+pub returns-in_default-push : goal.returns-in_default-push
+returns-in_default-push g c =
     let b = contents_of c.args.self.now in
     let frame = c.args.frame.now in
     let table = g.S.Source.table c.args.source.now in
-    let entry = c.in-ok-entry.entry in
+    let entry = c.in_ok-entry.entry in
     let day = c.day-day.result in
     let m = c.month-month.result.number in
-    let ours = of_this_year b frame table (raw_of c.in-ok-lawful.lawful) c.in-ok-lawful.ensures entry c.in-ok-entry.ensures.gives c.number.result c.year.result.number day.year.number c.number-2.result c.number.ensures c.year.ensures c.day-day.ensures.year c.number-2.ensures day.number m c.day-day.ensures.day c.if-number.false c.month-month.ensures in
-    let none = c.in-default-push.ensures.change in
+    let ours = of_this_year b frame table (raw_of c.in_ok-lawful.lawful) c.in_ok-lawful.ensures entry c.in_ok-entry.ensures.gives c.number.result c.year.result.number day.year.number c.number-2.result c.number.ensures c.year.ensures c.day-day.ensures.year c.number-2.ensures day.number m c.day-day.ensures.day c.if-number.false c.month-month.ensures in
+    let none = c.in_default-push.ensures.change in
     let at-end : usable b.memory ≤ b.used = omega (arith, none.full) in
     let step = in_full_journal b frame table entry m ours c.state.result c.state.ensures c.in-Open.is at-end c.push.new.self.rows.now c.push.new.self.length none.same none.count in
-    record { step = step; follows = extends step; same = c.entry-of.ensures.same; memory = c.push.ensures.memory }
+    record { step = step; follows = extends step; same = c.entry_of.ensures.same; memory = c.push.ensures.memory }
 
-pub invariant-of-self-2 : goal.invariant-of-self-2
-invariant-of-self-2 g c =
+pub invariant_of-self-2 : goal.invariant_of-self-2
+invariant_of-self-2 g c =
     let b = contents_of c.args.self.now in
     let frame = c.args.frame.now in
     let table = g.S.Source.table c.args.source.now in
-    let entry = c.in-ok-entry.entry in
+    let entry = c.in_ok-entry.entry in
     let day = c.day-day.result in
     let m = c.month-month.result.number in
-    let ours = of_this_year b frame table (raw_of c.in-ok-lawful.lawful) c.in-ok-lawful.ensures entry c.in-ok-entry.ensures.gives c.number.result c.year.result.number day.year.number c.number-2.result c.number.ensures c.year.ensures c.day-day.ensures.year c.number-2.ensures day.number m c.day-day.ensures.day c.if-number.false c.month-month.ensures in
+    let ours = of_this_year b frame table (raw_of c.in_ok-lawful.lawful) c.in_ok-lawful.ensures entry c.in_ok-entry.ensures.gives c.number.result c.year.result.number day.year.number c.number-2.result c.number.ensures c.year.ensures c.day-day.ensures.year c.number-2.ensures day.number m c.day-day.ensures.day c.if-number.false c.month-month.ensures in
     let more = c.in-Ok.ensures.change.1 in
-    let fits : b.used < usable b.memory = omega (arith, c.len.ensures, c.if-len-ge-MOST-ENTRIES.false, more.fits) in
-    (∣ offer_sound b frame table entry m ours c.state.result c.state.ensures c.in-Open.is (record { entry = entry; month = c.month-month.result; stands = true }) refl refl refl fits c.of_line.result c.of_line.ensures c.change.result c.change.new.self c.change.ensures c.push.new.self.rows.now c.push.new.self.length more.stored more.count (sound c.args.self.now) c.in-ok-entry.ensures.most ∣₁, tt)
+    let fits : b.used < usable b.memory = omega (arith, c.len.ensures, c.if-len-ge-MOST_ENTRIES.false, more.fits) in
+    (∣ offer_sound b frame table entry m ours c.state.result c.state.ensures c.in-Open.is (record { entry = entry; month = c.month-month.result; stands = true }) refl refl refl fits c.of_line.result c.of_line.ensures c.change.result c.change.new.self c.change.ensures c.push.new.self.rows.now c.push.new.self.length more.stored more.count (sound c.args.self.now) c.in_ok-entry.ensures.most ∣₁, tt)
 
 pub returns : goal.returns
 returns g c =
     let b = contents_of c.args.self.now in
     let frame = c.args.frame.now in
     let table = g.S.Source.table c.args.source.now in
-    let entry = c.in-ok-entry.entry in
+    let entry = c.in_ok-entry.entry in
     let day = c.day-day.result in
     let m = c.month-month.result.number in
-    let ours = of_this_year b frame table (raw_of c.in-ok-lawful.lawful) c.in-ok-lawful.ensures entry c.in-ok-entry.ensures.gives c.number.result c.year.result.number day.year.number c.number-2.result c.number.ensures c.year.ensures c.day-day.ensures.year c.number-2.ensures day.number m c.day-day.ensures.day c.if-number.false c.month-month.ensures in
+    let ours = of_this_year b frame table (raw_of c.in_ok-lawful.lawful) c.in_ok-lawful.ensures entry c.in_ok-entry.ensures.gives c.number.result c.year.result.number day.year.number c.number-2.result c.number.ensures c.year.ensures c.day-day.ensures.year c.number-2.ensures day.number m c.day-day.ensures.day c.if-number.false c.month-month.ensures in
     let pushed = c.in-Ok.ensures.change in
     let more = pushed.1 in
-    let fits : b.used < usable b.memory = omega (arith, c.len.ensures, c.if-len-ge-MOST-ENTRIES.false, more.fits) in
+    let fits : b.used < usable b.memory = omega (arith, c.len.ensures, c.if-len-ge-MOST_ENTRIES.false, more.fits) in
     let step = offer_taken b frame table entry m ours c.state.result c.state.ensures c.in-Open.is (record { entry = entry; month = c.month-month.result; stands = true }) refl refl refl fits c.of_line.result c.of_line.ensures c.change.result c.change.new.self c.change.ensures c.push.new.self.rows.now c.push.new.self.length more.stored more.count c.in-Ok.number pushed.0 in
-    record { step = step; follows = extends step; same = c.entry-of.ensures.same; memory = c.push.ensures.memory }
+    record { step = step; follows = extends step; same = c.entry_of.ensures.same; memory = c.push.ensures.memory }

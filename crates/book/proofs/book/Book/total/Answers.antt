@@ -6,27 +6,27 @@ use Rattle.book.proofs.Held.{sound}
 use Rattle.journal.proofs.Years.{total_counts, total_nets}
 use Rattle.book.proofs.book.Book.total.Goals as goal
 
-pub overflow-sub-result : goal.overflow-sub-result
-overflow-sub-result c =
-    let fuel = c.year-figure-fuel.ensures.light in
-    let carbonate = c.year-figure-carbonate.ensures.light in
-    let wastewater = c.year-figure-wastewater.ensures.light in
-    let power = c.year-figure-power-bought.ensures.light in
-    let heat = c.year-figure-heat-bought.ensures.light in
-    let power-sold = c.year-figure-power-sold.ensures.light in
-    let heat-sold = c.year-figure-heat-sold.ensures.light in
+pub overflow_sub-result : goal.overflow_sub-result
+overflow_sub-result c =
+    let fuel = c.year_figure-fuel.ensures.light in
+    let carbonate = c.year_figure-carbonate.ensures.light in
+    let wastewater = c.year_figure-wastewater.ensures.light in
+    let power = c.year_figure-power_bought.ensures.light in
+    let heat = c.year_figure-heat_bought.ensures.light in
+    let power-sold = c.year_figure-power_sold.ensures.light in
+    let heat-sold = c.year_figure-heat_sold.ensures.light in
     omega (arith, ints)
 
 pub returns : goal.returns
 returns c =
     let ms = c.args.self.now.months in
-    let fuel = c.year-figure-fuel in
-    let carbonate = c.year-figure-carbonate in
-    let wastewater = c.year-figure-wastewater in
-    let power = c.year-figure-power-bought in
-    let heat = c.year-figure-heat-bought in
-    let power-sold = c.year-figure-power-sold in
-    let heat-sold = c.year-figure-heat-sold in
+    let fuel = c.year_figure-fuel in
+    let carbonate = c.year_figure-carbonate in
+    let wastewater = c.year_figure-wastewater in
+    let power = c.year_figure-power_bought in
+    let heat = c.year_figure-heat_bought in
+    let power-sold = c.year_figure-power_sold in
+    let heat-sold = c.year_figure-heat_sold in
     let count = total_counts fuel.result carbonate.result wastewater.result power.result heat.result power-sold.result heat-sold.result
     fuel.ensures.light carbonate.ensures.light wastewater.ensures.light power.ensures.light heat.ensures.light power-sold.ensures.light heat-sold.ensures.light
     ms fuel.ensures.is carbonate.ensures.is wastewater.ensures.is power.ensures.is heat.ensures.is power-sold.ensures.is heat-sold.ensures.is in

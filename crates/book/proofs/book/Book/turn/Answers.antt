@@ -5,14 +5,14 @@ use Rattle.book.specs.Views.{contents_of}
 use Rattle.book.proofs.Held.{sound}
 use Rattle.book.proofs.book.Book.turn.Goals as goal
 
-pub returns-in-default : goal.returns-in-default
-returns-in-default c =
+pub returns-in_default : goal.returns-in_default
+returns-in_default c =
     let b = contents_of c.args.self.now in
-    let step = event_nowhere b c.args.month c.args.event c.in-default.ensures in
+    let step = event_nowhere b c.args.month c.args.event c.in_default.ensures in
     record { step = step; follows = extends step; memory = refl {a = c.args.self.now.journal.rows.name} }
 
-pub invariant-of-self : goal.invariant-of-self
-invariant-of-self c =
+pub invariant_of-self : goal.invariant_of-self
+invariant_of-self c =
     let b = contents_of c.args.self.now in
     (∣ event_sound b c.args.month c.args.event c.in-Some.named c.in-Some.ensures c.change.result c.change.new.self c.change.ensures (sound c.args.self.now) ∣₁, tt)
 

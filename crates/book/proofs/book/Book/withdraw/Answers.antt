@@ -6,9 +6,9 @@ use Rattle.book.specs.Views.{contents_of}
 use Rattle.book.proofs.Held.{sound, put_done}
 use Rattle.book.proofs.book.Book.withdraw.Goals as goal
 
-pub returns-in-default : goal.returns-in-default
-returns-in-default c =
-    let step = no_standing (contents_of c.args.self.now) c.args.number c.in-default.ensures in
+pub returns-in_default : goal.returns-in_default
+returns-in_default c =
+    let step = no_standing (contents_of c.args.self.now) c.args.number c.in_default.ensures in
     record { step = step; follows = extends step; memory = refl {a = c.args.self.now.journal.rows.name} }
 
 pub returns-then-not-change : goal.returns-then-not-change
@@ -19,8 +19,8 @@ returns-then-not-change c =
     let step = withdrawal_forbidden b (sound c.args.self.now) c.args.number row found.0 found.1 c.of_line.result c.of_line.ensures c.change.result c.change.new.self c.change.ensures c.if-not-change.true in
     record { step = step; follows = extends step; memory = refl {a = c.args.self.now.journal.rows.name} }
 
-pub invariant-of-self-2 : goal.invariant-of-self-2
-invariant-of-self-2 c =
+pub invariant_of-self-2 : goal.invariant_of-self-2
+invariant_of-self-2 c =
     let b = contents_of c.args.self.now in
     let holds = sound c.args.self.now in
     let row = c.in-Some.row in

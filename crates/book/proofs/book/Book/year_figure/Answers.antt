@@ -6,8 +6,8 @@ use Rattle.book.proofs.Held.{sound}
 use Rattle.journal.proofs.Years.{count_most, grams_most, count_more, grams_more, year_is}
 use Rattle.book.proofs.book.Book.year_figure.Goals as goal
 
-pub overflow-add-count : goal.overflow-add-count
-overflow-add-count c =
+pub overflow_add-count : goal.overflow_add-count
+overflow_add-count c =
     let b = contents_of c.args.self.now in
     let holds = sound c.args.self.now in
     let number = c.loop-number.number in
@@ -15,8 +15,8 @@ overflow-add-count c =
     let most = count_most b holds c.args.line (number + 1 - 1) in
     record { fits = omega (arith, more, most) }
 
-pub overflow-add-grams : goal.overflow-add-grams
-overflow-add-grams c =
+pub overflow_add-grams : goal.overflow_add-grams
+overflow_add-grams c =
     let b = contents_of c.args.self.now in
     let holds = sound c.args.self.now in
     let number = c.loop-number.number in
@@ -34,7 +34,7 @@ loop-number-preserved c =
         w.count-is ∙ count_more b holds c.args.line number w.in-Some.month w.in-Some.ensures w.figure-figure.result w.figure-figure.ensures c.loop-number.count c.loop-number.invariant.0,
         w.grams-is ∙ grams_more b holds c.args.line number w.in-Some.month w.in-Some.ensures w.figure-figure.result w.figure-figure.ensures c.loop-number.grams c.loop-number.invariant.1,
       )
-      | goal.in-default w ↦ absurd (no_month number w.in-default.ensures (record { from_january = c.loop-number.auto.number; to_december = omega (arith, c.loop-number-test.true) }))
+      | goal.in_default w ↦ absurd (no_month number w.in_default.ensures (record { from_january = c.loop-number.auto.number; to_december = omega (arith, c.loop-number-test.true) }))
     ]
 
 pub returns : goal.returns

@@ -19,5 +19,5 @@ behind f before mid after n (Err x) e p h = omega (arith, ap length p.left ∙ l
 
 pub returns : goal.returns
 returns c =
-    let h = c.in-ok-length.ensures in
+    let h = c.in_ok-length.ensures in
     behind _ _ _ _ c.from.result c.bytes.result (c.from.ensures ∙ h.0) h.1 c.bytes.ensures

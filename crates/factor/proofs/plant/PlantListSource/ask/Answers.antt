@@ -10,7 +10,7 @@ pub returns : goal.returns
 returns c =
     let q = asked_of c.args.question in
     record {
-      answer = c.first-fit.ensures ∙ ap (first_fit q) c.as-slice.ensures;
+      answer = c.first_fit.ensures ∙ ap (first_fit q) c.as_slice.ensures;
       same = refl;
-      limits = answer_within q.class c.first-fit.result (subst (λ (o : Option Factor). Limited q.class o) (sym c.first-fit.ensures) (rows_limited q c.as-slice.result.now));
+      limits = answer_within q.class c.first_fit.result (subst (λ (o : Option Factor). Limited q.class o) (sym c.first_fit.ensures) (rows_limited q c.as_slice.result.now));
     }

@@ -9,9 +9,9 @@ use Rattle.factor.proofs.printed.PrintedSource.ask.Goals as goal
 pub returns-in-Default : goal.returns-in-Default
 returns-in-Default c =
     let q = asked_of c.args.question in
-    let answer : c.default-factor.result ≡ printed_answer q = search rules in
+    let answer : c.default_factor.result ≡ printed_answer q = search rules in
     record {
       answer = answer;
       same = refl;
-      limits = answer_within q.class c.default-factor.result (subst (λ (o : Option Factor). Limited q.class o) (sym answer) (printed_limited q));
+      limits = answer_within q.class c.default_factor.result (subst (λ (o : Option Factor). Limited q.class o) (sym answer) (printed_limited q));
     }

@@ -6,8 +6,8 @@ pub returns : goal.returns
 returns c =
     let bs = c.args.self.bytes in
     let n = c.args.self.length in
-    let four = c.to-bytes.result in
-    let value = c.to-bytes.ensures.value in
+    let four = c.to_bytes.result in
+    let value = c.to_bytes.ensures.value in
     record {
       content =
           put_four bs n (get_or four 0 0) (get_or four 1 0) (get_or four 2 0) (get_or four 3 0) (search rules)
