@@ -269,7 +269,7 @@ sound_once b p q =
     let counts : IsProp ((p : Place) → (figure_at b.months p.month p.line).count ≡ row_count p.month p.line (used_rows b)) = hlevel props in
     let weighs : IsProp ((p : Place) → (figure_at b.months p.month p.line).grams ≡ row_grams p.month p.line (used_rows b)) = hlevel props in
     let bounded : IsProp ((k : ℕ) (row : JournalEntry) → Row b k row → row.entry.grams ≤ most_grams) = hlevel props in
-    let dated : IsProp ((k : ℕ) (row : JournalEntry) → Row b k row → InMonth b.year row.entry.day row.month.number) = search (props, in_month_once) in
+    let dated : IsProp ((k : ℕ) (row : JournalEntry) → Row b k row → InMonth b.year row.entry.day row.month.number) = λ f g i k row at. in_month_once b.year row.entry.day row.month.number (f k row at) (g k row at) i in
     λ i. record {
       fits = le_prop p.fits q.fits i;
       shaped = shaped p.shaped q.shaped i;

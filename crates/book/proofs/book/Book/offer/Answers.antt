@@ -12,13 +12,13 @@ pub returns-in_err-lawful : goal.returns-in_err-lawful
 returns-in_err-lawful g c =
     let p = err_from_is_err_and c.from_residual.result c.from_residual.ensures.1 in
     let step = no_record (contents_of c.args.self.now) c.args.frame.now (g.S.Source.table c.args.source.now) _ c.in_err-lawful.ensures in
-    record { step = rw (p.1, p.2) step; follows = rw (p.1, p.2) (extends step); same = refl {a = g.S.Source.table c.args.source.now}; memory = refl {a = c.args.self.now.journal.rows.name} }
+    record { step = rw (p.1, p.2) step; follows = rw (p.1, p.2) (extends step); same = refl {a = g.S.Source.table c.args.source.now}; memory = refl {a = c.args.self.now.journal.rows.ghost_name} }
 
 pub returns-in_err-entry : goal.returns-in_err-entry
 returns-in_err-entry g c =
     let p = err_from_is_err_and c.from_residual-in_err-entry.result c.from_residual-in_err-entry.ensures.1 in
     let step = no_entry (contents_of c.args.self.now) c.args.frame.now (g.S.Source.table c.args.source.now) (raw_of c.in_ok-lawful.lawful) c.in_ok-lawful.ensures _ c.in_err-entry.ensures.gives in
-    record { step = rw (p.1, p.2) step; follows = rw (p.1, p.2) (extends step); same = c.entry_of.ensures.same; memory = refl {a = c.args.self.now.journal.rows.name} }
+    record { step = rw (p.1, p.2) step; follows = rw (p.1, p.2) (extends step); same = c.entry_of.ensures.same; memory = refl {a = c.args.self.now.journal.rows.ghost_name} }
 
 pub returns-then-number : goal.returns-then-number
 returns-then-number g c =
@@ -28,7 +28,7 @@ returns-then-number g c =
     let entry = c.in_ok-entry.entry in
     let day = c.day-day.result in
     let step = of_other_year b frame table (raw_of c.in_ok-lawful.lawful) c.in_ok-lawful.ensures entry c.in_ok-entry.ensures.gives c.number.result c.year.result.number day.year.number c.number-2.result c.number.ensures c.year.ensures c.day-day.ensures.year c.number-2.ensures c.if-number.true in
-    record { step = step; follows = extends step; same = c.entry_of.ensures.same; memory = refl {a = c.args.self.now.journal.rows.name} }
+    record { step = step; follows = extends step; same = c.entry_of.ensures.same; memory = refl {a = c.args.self.now.journal.rows.ghost_name} }
 
 pub returns-in_default : goal.returns-in_default
 returns-in_default g c =
@@ -40,7 +40,7 @@ returns-in_default g c =
     let m = c.month-month.result.number in
     let ours = of_this_year b frame table (raw_of c.in_ok-lawful.lawful) c.in_ok-lawful.ensures entry c.in_ok-entry.ensures.gives c.number.result c.year.result.number day.year.number c.number-2.result c.number.ensures c.year.ensures c.day-day.ensures.year c.number-2.ensures day.number m c.day-day.ensures.day c.if-number.false c.month-month.ensures in
     let step = in_no_open_month b frame table entry m ours c.state.result c.state.ensures c.in_default.not-Open in
-    record { step = step; follows = extends step; same = c.entry_of.ensures.same; memory = refl {a = c.args.self.now.journal.rows.name} }
+    record { step = step; follows = extends step; same = c.entry_of.ensures.same; memory = refl {a = c.args.self.now.journal.rows.ghost_name} }
 
 pub returns-then-len-ge-MOST_ENTRIES : goal.returns-then-len-ge-MOST_ENTRIES
 returns-then-len-ge-MOST_ENTRIES g c =
@@ -53,7 +53,7 @@ returns-then-len-ge-MOST_ENTRIES g c =
     let ours = of_this_year b frame table (raw_of c.in_ok-lawful.lawful) c.in_ok-lawful.ensures entry c.in_ok-entry.ensures.gives c.number.result c.year.result.number day.year.number c.number-2.result c.number.ensures c.year.ensures c.day-day.ensures.year c.number-2.ensures day.number m c.day-day.ensures.day c.if-number.false c.month-month.ensures in
     let at-end : usable b.memory ≤ b.used = omega (arith, c.len.ensures, c.if-len-ge-MOST_ENTRIES.true) in
     let step = in_full_journal b frame table entry m ours c.state.result c.state.ensures c.in-Open.is at-end b.memory b.used refl refl in
-    record { step = step; follows = extends step; same = c.entry_of.ensures.same; memory = refl {a = c.args.self.now.journal.rows.name} }
+    record { step = step; follows = extends step; same = c.entry_of.ensures.same; memory = refl {a = c.args.self.now.journal.rows.ghost_name} }
 
 pub returns-in_default-push : goal.returns-in_default-push
 returns-in_default-push g c =
@@ -80,7 +80,7 @@ invariant_of-self-2 g c =
     let ours = of_this_year b frame table (raw_of c.in_ok-lawful.lawful) c.in_ok-lawful.ensures entry c.in_ok-entry.ensures.gives c.number.result c.year.result.number day.year.number c.number-2.result c.number.ensures c.year.ensures c.day-day.ensures.year c.number-2.ensures day.number m c.day-day.ensures.day c.if-number.false c.month-month.ensures in
     let more = c.in-Ok.ensures.change.1 in
     let fits : b.used < usable b.memory = omega (arith, c.len.ensures, c.if-len-ge-MOST_ENTRIES.false, more.fits) in
-    (∣ offer_sound b frame table entry m ours c.state.result c.state.ensures c.in-Open.is (record { entry = entry; month = c.month-month.result; stands = true }) refl refl refl fits c.of_line.result c.of_line.ensures c.change.result c.change.new.self c.change.ensures c.push.new.self.rows.now c.push.new.self.length more.stored more.count (sound c.args.self.now) c.in_ok-entry.ensures.most ∣₁, tt)
+    record { sound = ∣ offer_sound b frame table entry m ours c.state.result c.state.ensures c.in-Open.is (record { entry = entry; month = c.month-month.result; stands = true }) refl refl refl fits c.of-line.result c.of-line.ensures c.change.result c.change.new.self c.change.ensures c.push.new.self.rows.now c.push.new.self.length more.stored more.count (sound c.args.self.now) c.in_ok-entry.ensures.most ∣₁ }
 
 pub returns : goal.returns
 returns g c =
@@ -94,5 +94,5 @@ returns g c =
     let pushed = c.in-Ok.ensures.change in
     let more = pushed.1 in
     let fits : b.used < usable b.memory = omega (arith, c.len.ensures, c.if-len-ge-MOST_ENTRIES.false, more.fits) in
-    let step = offer_taken b frame table entry m ours c.state.result c.state.ensures c.in-Open.is (record { entry = entry; month = c.month-month.result; stands = true }) refl refl refl fits c.of_line.result c.of_line.ensures c.change.result c.change.new.self c.change.ensures c.push.new.self.rows.now c.push.new.self.length more.stored more.count c.in-Ok.number pushed.0 in
+    let step = offer_taken b frame table entry m ours c.state.result c.state.ensures c.in-Open.is (record { entry = entry; month = c.month-month.result; stands = true }) refl refl refl fits c.of-line.result c.of-line.ensures c.change.result c.change.new.self c.change.ensures c.push.new.self.rows.now c.push.new.self.length more.stored more.count c.in-Ok.number pushed.0 in
     record { step = step; follows = extends step; same = c.entry_of.ensures.same; memory = c.push.ensures.memory }
