@@ -10,4 +10,4 @@ abbrev pub invariant-loop-call : goal.invariant-loop-call
 invariant-loop-call g l =
     Throughout l.initial.book.year.number (usable l.initial.book.journal.rows.now) (calls_of (map g.S.Source.table l.initial.sources) (take l.call-index l.calls)) (contents_of l.book)
     × (map g.S.Source.table l.sources ≡ map g.S.Source.table l.initial.sources)
-    × (l.book.journal.rows.name ≡ l.initial.book.journal.rows.name)
+    × (l.book.journal.rows.ghost_name ≡ l.initial.book.journal.rows.ghost_name)
