@@ -2,7 +2,7 @@
 use Rattle.std.proofs.Common.{◌≡◌, ℕ, ◌+◌, ◌<◌, ◌≤◌, Bool, true, false, cond, List, [], ◌∷◌, ◌++◌, length, sym, refl, ap, ◌∙◌, subst, arith}
 use Rattle.std.proofs.lemmas.List.{append_assoc, append-nil, length-append}
 use Rattle.std.proofs.ByRecursion.{All-push}
-use Rattle.std.specs.List.{AllByRecursion as All}
+use Rattle.std.specs.List.{AllByRecursion}
 use Rattle.emission.specs.Entries.{Table}
 use Rattle.journal.specs.Contents.{Contents}
 use Rattle.frame_log.specs.Log.{framed, spelled, Ended, cut_count}
@@ -18,7 +18,7 @@ spelled_push (g ∷ fs) f = ap (λ v. framed g ++ v) (spelled_push fs f) ∙ sym
 pub record Along (bytes : List ℕ) (table : Table) (before : Contents) (taken refused : ℕ) (after : Contents) (rest : List ℕ) : Type 0 where
   pub frames : List (List ℕ)
   pub is : spelled frames ++ rest ≡ bytes
-  pub short : All (λ f. length f < 65536) frames
+  pub short : AllByRecursion (λ f. length f < 65536) frames
   pub offered : Offered frames table before taken after
   pub counted : taken + refused ≡ length frames
   pub room : taken + refused + length rest ≤ length bytes

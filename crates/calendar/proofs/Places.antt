@@ -1,9 +1,9 @@
 -- Where the months of a year stand. Assumes nothing.
-use Rattle.std.proofs.Common.{◌≡◌, ℕ, ◌+◌, ◌-◌, ◌<◌, ◌≤◌, Bool, true, false, cond, T, leb, List, get_or, take, sum, sym, refl, ap, ◌∙◌, subst, inl, inr, zero-add, arith, leb→le}
+use Rattle.std.proofs.Common.{◌≡◌, ℕ, ◌+◌, ◌-◌, ◌<◌, ◌≤◌, Bool, true, false, cond, T, leb, List, get_or, take, sum, refl, ap, ◌∙◌, subst, inl, inr, zero-add, arith, leb→le}
 use lib.Ieee.Fits.{and_l, and_r}
 use Rattle.std.proofs.lemmas.Bool.{cases_order}
 use Rattle.calendar.specs.Calendar.{year_lawful, leap, days_in, day_lawful}
-use Rattle.calendar.specs.Months.{lengths, first_day, days_before, InMonth}
+use Rattle.calendar.specs.Months.{lengths, days_before, InMonth}
 use Rattle.calendar.specs.Laws.{OnlyMonth}
 use Rattle.calendar.proofs.Sums.{sums_at, rises, Falls, falls}
 

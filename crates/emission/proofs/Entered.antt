@@ -1,5 +1,5 @@
 -- The ways that a record and a source's table end. Assumes nothing.
-use Rattle.std.proofs.Common.{◌≡◌, Ok, Err, Option, Result, sym, refl, ap, ◌∙◌, subst}
+use Rattle.std.proofs.Common.{◌≡◌, Ok, Err, Option, sym, ap, ◌∙◌}
 use Rattle.refusal.specs.declared.Refusal.{Refusal}
 use Rattle.reading.specs.declared.sets.Quantities.{Quantities}
 use Rattle.reading.specs.Quantity.{quantities_of}

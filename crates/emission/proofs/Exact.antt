@@ -1,7 +1,7 @@
 -- The parts are the exact emissions. Assumes nothing.
-use Rattle.std.proofs.Common.{◌≡◌, ℕ, ◌+◌, ◌-◌, ◌*◌, ◌/◌, ◌<◌, ◌≤◌, sym, refl, ap, ◌∙◌, mul_assoc, mul_comm, mul-one, arith}
+use Rattle.std.proofs.Common.{◌≡◌, ℕ, ◌-◌, ◌*◌, ◌/◌, ◌≤◌, sym, ap, ◌∙◌, mul_assoc, mul_comm, mul-one, arith}
 use native.Mathlib.Nat.{div-eq_of_lt-le}
-use Rattle.emission.specs.Fraction.{Fraction, ◌/:◌}
+use Rattle.emission.specs.Fraction.{◌/:◌}
 use Rattle.emission.specs.Formulas.{fuel_grams, carbonate_grams, bought_grams, energy_grams, water_heat, steam_heat, heat_grams, wastewater_grams}
 use Rattle.emission.specs.Parts.{IsParts, fuel_parts, carbonate_parts, bought_parts, energy_parts, water_parts, steam_parts, wastewater_parts}
 

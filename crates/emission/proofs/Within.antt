@@ -1,5 +1,5 @@
 -- The quantities of a lawful set keep its limits. Assumes nothing.
-use Rattle.std.proofs.Common.{◌≡◌, ℕ, ◌+◌, ◌*◌, ◌<◌, ◌≤◌, Bool, true, false, ◌&&◌, T, leb, sym, refl, ap, ◌∙◌, subst, le_trans, mul-le-mul_right, mul_assoc, mul-le-mul_left, one-mul, arith, leb→le}
+use Rattle.std.proofs.Common.{◌≡◌, ℕ, ◌+◌, ◌*◌, ◌<◌, ◌≤◌, ◌&&◌, T, leb, sym, refl, subst, mul_assoc, mul-le-mul_left, one-mul, arith, leb→le}
 use lib.Ieee.{Float}
 use lib.Ieee.Fits.{and_l, and_r}
 use Rattle.rounding.specs.Nearest.{nearest}
@@ -10,7 +10,7 @@ use Rattle.reading.specs.Quantity.{quantity_of, quantities_of}
 use Rattle.reading.specs.declared.sets.ReadingSet.{ReadingSet}
 use Rattle.reading.specs.declared.sets.ReadingSet.TheVariants.{Amount, Water, Steam, Wastewater}
 use Rattle.reading.proofs.Exactly.{under_pos}
-use Rattle.reading.proofs.Kept.{Each, each}
+use Rattle.reading.proofs.Kept.{each}
 use Rattle.emission.specs.Emission.{InRange}
 
 -- the exact value of a reading that keeps its limits lies between them

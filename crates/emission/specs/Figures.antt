@@ -6,7 +6,6 @@ use Rattle.reading.specs.declared.sets.Quantities.{Quantities}
 use Rattle.reading.specs.declared.sets.Quantities.TheVariants.{Amount, Water, Steam, Wastewater}
 use Rattle.factor.specs.declared.question.Factor.{Factor}
 use Rattle.factor.specs.Printed.{printed_answer}
-use Rattle.factor.specs.Questions.{Asked}
 use Rattle.emission.specs.Parts.{grams_of}
 use Rattle.emission.specs.Emission.{emission_parts, methane_checked}
 

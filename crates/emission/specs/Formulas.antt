@@ -1,5 +1,5 @@
 -- The emissions of the standard, in grams of CO2 equivalent, as exact fractions of quantities and factors.
-use Rattle.std.specs.Prelude.{ℕ, ◌+◌, ◌-◌, ◌*◌}
+use Rattle.std.specs.Prelude.{ℕ, ◌-◌, ◌*◌}
 use Rattle.emission.specs.Fraction.{Fraction, ◌/:◌, ◌·◌, ◌less◌}
 
 -- kilograms as tonnes; of a gas, tens of cubic metres as units of ten thousand

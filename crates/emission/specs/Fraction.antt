@@ -1,5 +1,5 @@
 -- Exact numbers: fractions of whole numbers.
-use Rattle.std.specs.Prelude.{◌≡◌, ℕ, ◌-◌, ◌*◌}
+use Rattle.std.specs.Prelude.{ℕ, ◌-◌, ◌*◌}
 
 pub record Fraction : Type 0 where
   pub over : ℕ

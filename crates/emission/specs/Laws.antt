@@ -1,6 +1,6 @@
 -- The parts are the exact emissions.
 use Rattle.std.specs.Prelude.{◌≡◌, ℕ, ◌*◌, ◌≤◌}
-use Rattle.emission.specs.Fraction.{Fraction, ◌/:◌}
+use Rattle.emission.specs.Fraction.{◌/:◌}
 use Rattle.emission.specs.Formulas.{fuel_grams, carbonate_grams, bought_grams, energy_grams, water_heat, steam_heat, heat_grams, wastewater_grams}
 use Rattle.emission.specs.Parts.{IsParts, fuel_parts, carbonate_parts, bought_parts, energy_parts, water_parts, steam_parts, wastewater_parts}
 

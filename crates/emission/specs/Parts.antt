@@ -1,8 +1,7 @@
 -- The same emissions in whole parts of a gram.
-use Rattle.std.specs.Prelude.{◌≡◌, ℕ, ◌+◌, ◌-◌, ◌*◌, ◌/◌}
+use Rattle.std.specs.Prelude.{◌≡◌, ℕ, ◌-◌, ◌*◌, ◌/◌}
 use Rattle.rounding.specs.Nearest.{nearest}
 use Rattle.emission.specs.Fraction.{Fraction}
-use Rattle.emission.specs.Formulas.{cod_removed}
 
 -- a gram has 3 × 10¹⁰ parts
 abbrev pub parts_per_gram : ℕ

@@ -1,5 +1,4 @@
 -- What the values of the code hold, in plain numbers.
-use Rattle.std.specs.Prelude.{Option}
 use Rattle.kind.specs.Kinds.{numbers_of}
 use Rattle.kind.specs.Tiers.{letter_of}
 use Rattle.emission.specs.declared.entry.Entry.{Entry}

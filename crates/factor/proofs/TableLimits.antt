@@ -1,11 +1,11 @@
 -- The printed table keeps to the limits. Assumes nothing.
-use Rattle.std.proofs.Common.{◌≡◌, ℕ, zero, suc, ◌-◌, ◌<◌, ◌≤◌, ◌&&◌, T, eqb, leb, List, [], ◌∷◌, length, get_or, Some, sym, subst, inl, inr, le_of_suc-le-suc, not-suc-le-zero, arith}
+use Rattle.std.proofs.Common.{◌≡◌, ℕ, zero, suc, ◌-◌, ◌<◌, ◌≤◌, ◌&&◌, T, eqb, leb, List, [], ◌∷◌, length, get_or, sym, subst, inl, inr, le_of_suc-le-suc, not-suc-le-zero, arith}
 use Rattle.std.proofs.lemmas.Bool.{cases_Bool, and_parts, eqb-true, leb-true}
 use lib.Ieee.Fits.{and_l, and_r}
 use Rattle.factor.specs.declared.question.Factor.{Factor}
 use Rattle.factor.specs.Limits.{keeps, Within}
 use Rattle.factor.specs.Questions.{Asked}
-use Rattle.factor.specs.Printed.{printed, printed_at, factor_of, fuel_factor, printed_default, printed_answer, rows_keep}
+use Rattle.factor.specs.Printed.{printed, factor_of, fuel_factor, printed_default, printed_answer, rows_keep}
 use Rattle.factor.proofs.Limited.{Limited, none_limited}
 
 -- what is computed of the whole table holds of each row

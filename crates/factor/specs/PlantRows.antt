@@ -1,5 +1,5 @@
 -- What the plant's own rows answer.
-use Rattle.std.specs.Prelude.{◌≡◌, ℕ, ◌<◌, Bool, false, cond, ◌&&◌, T, List, [], ◌∷◌, length, Some, None, Option, ◌==◌, nat_le}
+use Rattle.std.specs.Prelude.{Bool, cond, ◌&&◌, List, [], ◌∷◌, Some, None, Option, ◌==◌, nat_le}
 use Rattle.factor.specs.declared.plant.PlantRow.{PlantRow}
 use Rattle.factor.specs.declared.question.Factor.{Factor}
 use Rattle.factor.specs.Questions.{Asked}

@@ -1,8 +1,8 @@
 -- Laws of the run of fields. Assumes nothing.
-use Rattle.std.proofs.Common.{◌≡◌, ℕ, zero, suc, ◌+◌, ◌<◌, ◌≤◌, Bool, true, false, cond, eqb, List, [], ◌∷◌, length, Ok, Err, Result, sym, refl, ap, ◌∙◌, arith}
+use Rattle.std.proofs.Common.{◌≡◌, ℕ, zero, suc, ◌+◌, ◌≤◌, List, length, Err, sym, refl, ap, ◌∙◌, arith}
 use Rattle.std.proofs.lemmas.Bool.{eq-eqb, ne_eqb}
 use Rattle.refusal.specs.declared.Refusal.{Refusal}
-use Rattle.frame.specs.Reading.{Front, told, refuses, front, Told, nothing, put, whole, reads, frame_of}
+use Rattle.frame.specs.Reading.{told, refuses, front, Told, nothing, put, whole, reads, frame_of}
 use Rattle.frame.proofs.Front.{front_length}
 
 pub reads_end : (k at above : ℕ) (t : Told) (bs : List ℕ) → length bs ≡ 0 → reads k at above t bs ≡ whole t

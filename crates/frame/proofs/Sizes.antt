@@ -1,9 +1,9 @@
 -- What sound parts measure. Assumes nothing.
-use Rattle.std.proofs.Common.{◌≡◌, ℕ, ◌+◌, ◌<◌, ◌≤◌, Bool, true, false, cond, ◌&&◌, ◌||◌, eqb, leb, List, [], ◌∷◌, ◌++◌, length, Some, None, Option, sym, refl, ap, ◌∙◌, subst, arith}
+use Rattle.std.proofs.Common.{◌≡◌, ℕ, ◌+◌, ◌≤◌, true, eqb, List, [], ◌∷◌, length, Some, None, Option, arith}
 use Rattle.std.proofs.lemmas.List.{length-append}
 use Rattle.std.proofs.lemmas.Bool.{eqb-true, leb-true, and_parts}
 use Rattle.std.proofs.lemmas.Bool.Decides.{nat_tests}
-use Rattle.frame.specs.Format.{Parts, field, optional, named, written, length_fits, optional_fits, sound}
+use Rattle.frame.specs.Format.{Parts, optional, named, written, length_fits, optional_fits, sound}
 
 -- the lengths of sound parts
 pub record Measured (p : Parts) : Type 0 where

@@ -1,5 +1,5 @@
 -- What the values of the code hold.
-use Rattle.std.specs.Prelude.{◌≡◌, ℕ, Bool, true, List, [], ◌∷◌, length, Some, None, Ok, Err, Option, Result}
+use Rattle.std.specs.Prelude.{ℕ, List, [], ◌∷◌, Some, None, Ok, Err, Option, Result}
 use Rattle.std.specs.Borrow.{Bor}
 use Rattle.frame.specs.declared.fault.FrameFault.{FrameFault}
 use Rattle.frame.specs.declared.field.Field.{Field}
@@ -7,7 +7,7 @@ use Rattle.frame.specs.declared.field.Field.TheVariants.{When, Kind, Item, Tier,
 use Rattle.frame.specs.declared.field.Next.{Next}
 use Rattle.frame.specs.declared.fields.Fields.{Fields}
 use Rattle.frame.specs.declared.reader.Seen.{Seen}
-use Rattle.frame.specs.Format.{Parts, length_fits}
+use Rattle.frame.specs.Format.{Parts}
 use Rattle.frame.specs.Reading.{Front, told, refuses, Told}
 use Rattle.frame.specs.Faults.{refusal_of}
 

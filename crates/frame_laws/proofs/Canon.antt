@@ -1,11 +1,10 @@
 -- A rising run is the fields told, in the order of their tags. Assumes nothing.
-use Rattle.std.proofs.Common.{◌≡◌, ℕ, zero, suc, ◌+◌, ◌<◌, ◌≤◌, Bool, true, false, cond, ◌&&◌, ◌||◌, eqb, leb, ◌⊎◌, List, [], ◌∷◌, ◌++◌, length, get_or, Some, None, Ok, Err, Option, sym, refl, ap, ◌∙◌, subst, inl, inr, arith}
+use Rattle.std.proofs.Common.{◌≡◌, ℕ, suc, ◌<◌, true, cond, eqb, leb, List, [], ◌∷◌, ◌++◌, length, Some, None, Ok, Option, sym, refl, ap, ◌∙◌, subst, inl, inr, arith}
 use Rattle.std.proofs.lemmas.List.{append_assoc, append-nil}
-use Rattle.std.proofs.lemmas.Bool.{ne_eqb, eq-eqb, cases_eq, and_parts, leb-true, le-leb, eqb-true, cond_both}
+use Rattle.std.proofs.lemmas.Bool.{ne_eqb, cases_eq, and_parts, leb-true, eqb-true, cond_both}
 use Rattle.frame.specs.Format.{known, length_fits, field, optional, optional_fits, named, Parts, written, sound}
 use Rattle.frame.specs.Reading.{Told, put, whole, first, bytes_or, nothing}
 use Rattle.frame.proofs.Front.{one_byte}
-use Rattle.frame.proofs.Sizes.{Measured, measured}
 use Rattle.frame_laws.specs.Runs.{Field, Rising, laid}
 use Rattle.frame_laws.proofs.Split.{tell}
 

@@ -1,18 +1,18 @@
 -- The laws of frames. Assumes nothing.
-use Rattle.std.proofs.Common.{◌≡◌, ℕ, zero, suc, ◌+◌, ◌<◌, ◌≤◌, Bool, true, false, cond, ◌||◌, eqb, leb, ◌⊎◌, List, [], ◌∷◌, ◌++◌, length, is_some, Some, None, Ok, Err, Option, Result, sym, refl, ap, ◌∙◌, subst, inl, inr, zero-add, arith}
-use Rattle.std.proofs.lemmas.List.{append_assoc, append-nil}
+use Rattle.std.proofs.Common.{◌≡◌, ℕ, suc, ◌+◌, ◌≤◌, Bool, true, false, cond, ◌||◌, eqb, ◌⊎◌, List, [], ◌∷◌, ◌++◌, length, is_some, Some, None, Ok, Err, Option, sym, refl, ap, ◌∙◌, subst, inl, inr, zero-add, arith}
+use Rattle.std.proofs.lemmas.List.{append-nil}
 use Rattle.refusal.specs.declared.Refusal.{Refusal}
 use Rattle.refusal.specs.declared.Layer.TheVariants.{Frame}
 use Rattle.refusal.specs.Said.{refusal}
-use Rattle.std.proofs.lemmas.Bool.{and_parts, eqb-true, leb-true, le-leb}
-use Rattle.frame.specs.Format.{known, length_fits, field, optional, optional_fits, named, Parts, written, sound}
+use Rattle.std.proofs.lemmas.Bool.{le-leb}
+use Rattle.frame.specs.Format.{length_fits, field, optional, optional_fits, named, Parts, written, sound}
 use Rattle.frame.specs.Reading.{Told, put, whole, nothing, frame_of}
 use Rattle.frame.proofs.Sizes.{measured}
 use Rattle.frame.proofs.Run.{reads_end, reads_refused}
-use Rattle.frame_laws.specs.Runs.{Bytes, Field, Rising, laid, last, has, first_missing, Fault}
-use Rattle.frame_laws.specs.Laws.{Accepts, Refuses, RefusesAsFrame, FaultAt, Lacks, Faulty}
-use Rattle.frame_laws.proofs.Split.{tell, came, Came, reads_run, fault_front}
-use Rattle.frame_laws.proofs.Canon.{wr, laid_wr, sized_run, whole_written}
+use Rattle.frame_laws.specs.Runs.{Bytes, Field, Rising, laid, last, has, first_missing}
+use Rattle.frame_laws.specs.Laws.{Accepts, Refuses, RefusesAsFrame, Faulty}
+use Rattle.frame_laws.proofs.Split.{tell, came, reads_run, fault_front}
+use Rattle.frame_laws.proofs.Canon.{laid_wr, sized_run, whole_written}
 
 -- ---- what is written is read
 

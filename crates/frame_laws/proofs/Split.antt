@@ -1,7 +1,7 @@
 -- What reading makes of any bytes: a rising run, and then the end or a fault. Assumes nothing.
-use Rattle.std.proofs.Common.{◌≡◌, ℕ, zero, suc, ◌+◌, ◌-◌, ◌*◌, ◌/◌, ◌%◌, ◌<◌, ◌≤◌, Bool, true, false, cond, ◌&&◌, ◌||◌, eqb, ltb, leb, ◌⊎◌, List, [], ◌∷◌, ◌++◌, length, get_or, take, drop, Ok, Err, Result, sym, refl, ap, ◌∙◌, subst, inl, inr, add-zero, add_assoc, arith, length-drop}
-use Rattle.std.proofs.lemmas.List.{take_at, drop_at, length-append, append_assoc, append-nil, length-take-le, take-append-drop, nil_from_length}
-use Rattle.std.proofs.lemmas.Bool.{ne_eqb, and_parts, leb-true, ltb-true, cases_Bool, eqb-true, leb-false, ltb-false, le-leb, lt-ltb, lt-leb, le-ltb}
+use Rattle.std.proofs.Common.{◌≡◌, ℕ, zero, suc, ◌+◌, ◌*◌, ◌/◌, ◌%◌, ◌<◌, ◌≤◌, Bool, true, false, eqb, ltb, leb, ◌⊎◌, List, [], ◌∷◌, ◌++◌, length, get_or, take, drop, Err, Result, sym, refl, ap, ◌∙◌, subst, inl, inr, add-zero, arith, length-drop}
+use Rattle.std.proofs.lemmas.List.{take_at, drop_at, length-append, append_assoc, length-take-le, take-append-drop, nil_from_length}
+use Rattle.std.proofs.lemmas.Bool.{and_parts, leb-true, ltb-true, cases_Bool, eqb-true, leb-false, ltb-false, le-leb, lt-ltb, lt-leb, le-ltb}
 use Rattle.std.proofs.ByRecursion.{All-drop}
 use Rattle.refusal.specs.declared.Refusal.{Refusal}
 use Rattle.refusal.specs.declared.Layer.TheVariants.{Frame}
@@ -9,7 +9,7 @@ use Rattle.refusal.specs.Said.{refusal}
 use Rattle.frame.specs.Format.{known, length_fits, word, field, Parts}
 use Rattle.frame.specs.Reading.{Front, told, refuses, front, Told, put, whole, reads}
 use Rattle.frame.proofs.Front.{front_told, Stands, front_stands, front_length}
-use Rattle.frame.proofs.Run.{reads_end, reads_told, reads_refused}
+use Rattle.frame.proofs.Run.{reads_end, reads_told}
 use Rattle.frame_laws.specs.Runs.{Bytes, Field, Rising, laid, last, Fault, header_cut, tag_unknown, tag_not_rising, length_wrong, bytes_cut}
 
 -- the fields of a run, told one after the other

@@ -1,9 +1,9 @@
 -- What counting the frames of a log keeps. Assumes nothing.
-use Rattle.std.proofs.Common.{◌≡◌, ℕ, suc, ◌+◌, ◌<◌, ◌≤◌, Bool, true, false, cond, List, [], ◌∷◌, ◌++◌, length, sym, refl, ap, ◌∙◌, add-zero, add_assoc, arith}
-use Rattle.std.proofs.lemmas.List.{append_assoc, append-nil, length-append, nil_from_length}
+use Rattle.std.proofs.Common.{◌≡◌, ℕ, ◌+◌, ◌<◌, ◌≤◌, Bool, true, false, cond, List, [], ◌∷◌, ◌++◌, length, sym, refl, ap, ◌∙◌, add_assoc, arith}
+use Rattle.std.proofs.lemmas.List.{append_assoc, append-nil, length-append}
 use Rattle.std.proofs.ByRecursion.{All-push}
-use Rattle.std.specs.List.{AllByRecursion as All}
-use Rattle.frame_log.specs.Log.{framed, spelled, Ended, Spells, taken_by, taken_count, refused_count, cut_count, CountedIn}
+use Rattle.std.specs.List.{AllByRecursion}
+use Rattle.frame_log.specs.Log.{framed, spelled, Ended, taken_by, taken_count, refused_count, cut_count, CountedIn}
 
 -- one frame more at the end of a list of frames
 spelled_push : (fs : List (List ℕ)) (f : List ℕ) → spelled (fs ++ f ∷ []) ≡ spelled fs ++ framed f
@@ -22,7 +22,7 @@ refused_push year (g ∷ fs) f = ap (λ n. cond (taken_by year g) 0 1 + n) (refu
 pub record Along (year : ℕ) (log : List ℕ) (taken refused : ℕ) (rest : List ℕ) : Type 0 where
   pub frames : List (List ℕ)
   pub is : spelled frames ++ rest ≡ log
-  pub short : All (λ f. length f < 65536) frames
+  pub short : AllByRecursion (λ f. length f < 65536) frames
   pub taken_is : taken ≡ taken_count year frames
   pub refused_is : refused ≡ refused_count year frames
   pub room : taken + refused + length rest ≤ length log

@@ -1,8 +1,7 @@
 -- Bytes spell one list of frames. Assumes nothing.
-use Rattle.std.proofs.Common.{◌≡◌, ℕ, ◌+◌, ◌*◌, ◌/◌, ◌%◌, ◌<◌, ◌≤◌, List, [], ◌∷◌, ◌++◌, length, get_or, take, drop, sym, refl, ap, ◌∙◌, subst, arith}
+use Rattle.std.proofs.Common.{◌≡◌, ℕ, ◌/◌, ◌%◌, List, [], ◌∷◌, ◌++◌, length, get_or, take, drop, sym, refl, ap, ◌∙◌, subst, arith}
 use Rattle.std.proofs.lemmas.List.{append_assoc, length-append, take_at, drop_at}
-use Rattle.frame.specs.Format.{word}
-use Rattle.frame_log.specs.Log.{framed, spelled, Ended, all_read, length_cut, frame_cut, Spells, SpellsOnce}
+use Rattle.frame_log.specs.Log.{framed, spelled, Ended, all_read, length_cut, frame_cut, SpellsOnce}
 
 -- a frame that is there is no end
 no_end : (f more : List ℕ) → Ended (framed f ++ more) → ⊥

@@ -1,6 +1,6 @@
 -- What a log spells, and what its counts are.
 use Rattle.std.specs.Prelude.{◌≡◌, ℕ, ◌+◌, ◌<◌, ◌≤◌, Bool, true, false, cond, List, [], ◌∷◌, ◌++◌, length, drop, Ok, Err, Result, ◌==◌}
-use Rattle.std.specs.List.{AllByRecursion as All}
+use Rattle.std.specs.List.{AllByRecursion}
 use Rattle.refusal.specs.declared.Refusal.{Refusal}
 use Rattle.calendar.specs.Calendar.{year_lawful}
 use Rattle.frame.specs.Format.{word}
@@ -24,7 +24,7 @@ pub data Ended (rest : List ℕ) : Type 0 where
 -- the bytes are these frames, and then an end
 pub record Spells (bytes : List ℕ) (frames : List (List ℕ)) (rest : List ℕ) : Type 0 where
   pub is : spelled frames ++ rest ≡ bytes
-  pub short : All (λ f. length f < 65536) frames
+  pub short : AllByRecursion (λ f. length f < 65536) frames
   pub ended : Ended rest
 
 -- a frame is taken if it reads as a lawful record of the year

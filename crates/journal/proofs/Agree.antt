@@ -10,7 +10,7 @@ use Rattle.months.specs.Accounts.{Shaped}
 use Rattle.journal.specs.declared.row.JournalEntry.{JournalEntry}
 use Rattle.journal.specs.Calls.{Call, Given, entry_told, month_told}
 use Rattle.journal.specs.Rules.{OfferAnswer, WithdrawAnswer, IsMonth}
-use Rattle.journal.specs.Words.{StateIs, Taken, Stands, entry, Answers, to_offer, to_withdrawal, to_event}
+use Rattle.journal.specs.Words.{StateIs, Taken, Stands, Answers, to_offer, to_withdrawal, to_event}
 use Rattle.journal.specs.Contents.{Contents, usable, InState, Row, Marked, Step, offer_refused, offer_taken, withdrawal_refused, withdrawal_taken, event_refused, event_taken}
 use Rattle.journal.proofs.Rules.{offer_there, turn_there, withdraw_there, offer_one, turn_one, withdraw_one}
 

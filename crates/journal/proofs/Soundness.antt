@@ -4,7 +4,7 @@ use mathlib.Core.Logic.{∥∥₁_elim}
 use native.Mathlib.Bridge.{le_prop}
 use lib.Seq.{take-set-lt}
 use denote.Struct.Props.{props}
-use Rattle.std.specs.List.{AllByRecursion as All}
+use Rattle.std.specs.List.{AllByRecursion}
 use Rattle.std.specs.Option.{option_map}
 use Rattle.std.proofs.lemmas.Bool.Decides.{eqb_tells}
 use Rattle.std.proofs.lemmas.Bool.{eqb-true, cases_lt}
@@ -26,9 +26,7 @@ use Rattle.months.specs.Accounts.{account_at, state_at, line_at, figure_at, Shap
 use Rattle.months.proofs.Changes.{line_bounds, account_set, line_set, shaped_new, new_empty, shaped_change}
 use Rattle.journal.specs.declared.row.JournalEntry.{JournalEntry}
 use Rattle.journal.specs.Rules.{IsMonth}
-use Rattle.journal.specs.Rules as rules
 use Rattle.journal.specs.Contents.{Contents, usable, Row, Entered, withdrawn_row, Left, Turned, New}
-use Rattle.journal.specs.Contents as contents
 use Rattle.journal.specs.Sound.{Place, stands_in, used_rows, row_count, row_grams, Sound}
 
 -- a line after one is replaced
@@ -86,7 +84,7 @@ cond-le true v n h = h
 cond-le false v n h = omega arith
 
 -- what holds of each element by its place holds of all
-all_read : {A : Type 0} (P : A → Type 0) (xs : List A) → ((i : ℕ) (x : A) → i < length xs → x ≡ get_or xs i x → P x) → All P xs
+all_read : {A : Type 0} (P : A → Type 0) (xs : List A) → ((i : ℕ) (x : A) → i < length xs → x ≡ get_or xs i x → P x) → AllByRecursion P xs
 all_read P [] h = tt
 all_read P (x ∷ xs) h = (h 0 x (omega arith) refl, all_read P xs (λ i y below is. h (suc i) y (omega arith) is))
 

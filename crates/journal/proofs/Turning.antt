@@ -11,7 +11,7 @@ use Rattle.months.specs.Accounts.{account_at, state_at}
 use Rattle.journal.specs.declared.row.JournalEntry.{JournalEntry}
 use Rattle.journal.specs.Calls.{Call, turn}
 use Rattle.journal.specs.Rules.{TurnAnswer, turned, IsMonth}
-use Rattle.journal.specs.Words.{Turns, StateIs, taken_event, any_other, Taken, past_event, entry, still}
+use Rattle.journal.specs.Words.{Turns, StateIs, taken_event, any_other, Taken, past_event, still}
 use Rattle.journal.specs.Contents.{Contents, usable, InState, Row, Turned}
 use Rattle.journal.proofs.Rules.{turn_not_withdraw, same_turn}
 use Rattle.journal.proofs.Agree.{Agree}

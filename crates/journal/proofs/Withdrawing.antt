@@ -12,7 +12,7 @@ use Rattle.months.specs.Accounts.{account_at, state_at}
 use Rattle.journal.specs.declared.row.JournalEntry.{JournalEntry}
 use Rattle.journal.specs.Calls.{Call, withdraw}
 use Rattle.journal.specs.Rules.{WithdrawAnswer, withdrawn, IsMonth}
-use Rattle.journal.specs.Words.{Taken, past_withdrawal, Stands, entry, still}
+use Rattle.journal.specs.Words.{Taken, past_withdrawal, Stands, still}
 use Rattle.journal.specs.Contents.{Contents, usable, InState, Row, Marked, Left, withdrawn_row}
 use Rattle.journal.proofs.Rules.{same_number, month_of}
 use Rattle.journal.proofs.Agree.{Agree, mark_one}

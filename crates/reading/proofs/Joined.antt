@@ -1,7 +1,7 @@
 -- A set and its bytes determine each other.
 use Rattle.std.proofs.Common.{◌≡◌, ℕ, ◌+◌, ◌*◌, ◌/◌, ◌%◌, ◌<◌, ◌≤◌, Bool, true, false, cond, T, eqb, List, [], ◌∷◌, ◌++◌, length, get_or, take, drop, Some, None, sym, refl, ap, ◌∙◌, subst, mod-lt, arith, eqb→eq, length-drop, take-append-drop, length-take, drop-drop}
 use lib.Ieee.{Float, binary32, fits, to_bits}
-use Rattle.std.specs.List.{AllByRecursion as All}
+use Rattle.std.specs.List.{AllByRecursion}
 use Rattle.std.proofs.ByRecursion.{All-get_or}
 use Rattle.std.proofs.lemmas.List.{drop_all}
 use Rattle.reading.specs.Dyadic.{clear}
@@ -96,7 +96,7 @@ sized (Wastewater w) = refl
 low : (n : ℕ) → n % 256 < 256
 low n = mod-lt n (omega arith)
 
-all_bytes : (rs : List Limited) → All (λ b. b < 256) (joined rs)
+all_bytes : (rs : List Limited) → AllByRecursion (λ b. b < 256) (joined rs)
 all_bytes [] = tt
 all_bytes (r ∷ rs) =
     let n = to_bits binary32 r.value in

@@ -2,7 +2,7 @@
 use Rattle.std.specs.Prelude.{◌≡◌, ℕ, ◌*◌, ◌<◌, true, cond, List, [], ◌∷◌, ◌++◌, length, take, drop, Some, None, Option, ◌==◌, slice_index, Float}
 use Rattle.std.specs.Float.{binary32}
 use Rattle.std.specs.Float.Ieee.{fits}
-use Rattle.std.specs.List.{AllByRecursion as All}
+use Rattle.std.specs.List.{AllByRecursion}
 use Rattle.reading.specs.Limited.{Limited, readings_of}
 use Rattle.reading.specs.Wire.{decode, encode}
 use Rattle.reading.specs.declared.sets.Shape.{Shape}
@@ -50,7 +50,7 @@ set_bytes set = joined (readings_of set)
 
 -- each reading of the set is a binary32 number
 abbrev pub Held : ReadingSet → Type 0
-Held set = All (λ r. fits binary32 r.value ≡ true) (readings_of set)
+Held set = AllByRecursion (λ r. fits binary32 r.value ≡ true) (readings_of set)
 
 -- each number is a byte
 abbrev pub Bytes : List ℕ → Type 0

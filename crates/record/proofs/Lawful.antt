@@ -1,6 +1,5 @@
 -- What is known of a record that was checked. Assumes nothing.
-use Rattle.std.proofs.Common.{◌≡◌, ℕ, Bool, true, cond, Ok, Err, Option, Result, sym, refl, ap, ◌∙◌, subst}
-use Rattle.refusal.specs.declared.Refusal.{Refusal}
+use Rattle.std.proofs.Common.{◌≡◌, ℕ, true, Ok, Option, sym, ◌∙◌, subst}
 use Rattle.calendar.specs.Calendar.{year_lawful, day_lawful}
 use Rattle.calendar.specs.Faults.{year_in, day_in}
 use Rattle.reading.specs.declared.sets.ReadingSet.{ReadingSet}

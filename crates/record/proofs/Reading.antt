@@ -1,8 +1,8 @@
 -- The ways that reading and checking a record end. Assumes nothing.
-use Rattle.std.proofs.Common.{◌≡◌, ℕ, List, Some, None, Ok, Err, Option, Result, sym, refl, ap, ◌∙◌}
+use Rattle.std.proofs.Common.{◌≡◌, ℕ, List, Some, None, Ok, Err, Option, Result, sym, ap, ◌∙◌}
 use Rattle.refusal.specs.declared.Refusal.{Refusal}
 use Rattle.refusal.specs.declared.Layer.TheVariants.{Record}
-use Rattle.refusal.specs.Said.{refusal, then}
+use Rattle.refusal.specs.Said.{refusal}
 use Rattle.frame.specs.Format.{Parts, year_named, day_named, share_named}
 use Rattle.frame.specs.Reading.{frame_of}
 use Rattle.reading.specs.declared.sets.ReadingSet.{ReadingSet}

@@ -1,8 +1,7 @@
 -- The rules of records beyond those of kinds and readings.
-use Rattle.std.specs.Prelude.{ℕ, Bool, true, false, cond, ◌&&◌, ◌||◌, Some, None, Ok, Err, Option, Result, ◌==◌, nat_le}
+use Rattle.std.specs.Prelude.{ℕ, Bool, true, false, cond, ◌&&◌, Some, None, Ok, Option, Result, ◌==◌, nat_le}
 use Rattle.refusal.specs.declared.Refusal.{Refusal}
-use Rattle.refusal.specs.declared.Layer.TheVariants.{Record}
-use Rattle.refusal.specs.Said.{refusal, then}
+use Rattle.refusal.specs.Said.{then}
 use Rattle.calendar.specs.Faults.{year_in, day_in}
 use Rattle.kind.specs.Subject.{kind_in, tier_in, shape_in}
 use Rattle.reading.specs.declared.sets.Shape.{Shape}

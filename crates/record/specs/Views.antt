@@ -1,5 +1,4 @@
 -- What the values of the code hold, in plain numbers.
-use Rattle.std.specs.Prelude.{ℕ}
 use Rattle.record.specs.declared.heading.Heading.{Heading}
 use Rattle.record.specs.declared.record.Record.{Record}
 use Rattle.record.specs.declared.raw.RawRecord.{RawRecord}

@@ -1,12 +1,11 @@
 -- Records and frames, there and back. Assumes nothing.
-use Rattle.std.proofs.Common.{◌≡◌, ℕ, suc, ◌+◌, ◌*◌, ◌/◌, ◌%◌, ◌<◌, ◌≤◌, Bool, true, false, cond, T, eqb, leb, List, [], ◌∷◌, ◌++◌, length, get_or, take, drop, IfOk, Some, None, Ok, Err, Option, Result, sym, refl, ap, ◌∙◌, subst, arith, w8, Fits}
-use lib.Ieee.Bits.{is_true}
+use Rattle.std.proofs.Common.{◌≡◌, ℕ, suc, ◌+◌, ◌*◌, ◌/◌, ◌%◌, ◌<◌, true, T, leb, List, [], ◌∷◌, ◌++◌, length, get_or, take, drop, IfOk, Some, None, Ok, Err, Option, Result, sym, refl, ap, ◌∙◌, subst, arith, w8, Fits}
 use Rattle.std.proofs.lemmas.Bool.{eqb-true, le-leb, leb-true}
 use Rattle.std.proofs.lemmas.List.{take_at}
 use Rattle.std.proofs.ByRecursion.{All-get_or}
 use Rattle.refusal.specs.declared.Refusal.{Refusal}
-use Rattle.refusal.specs.Said.{then, said}
-use Rattle.frame.specs.Format.{Parts, field, optional, optional_fits, named, written, sound, word, year_named, day_named, share_named, number_in, name_answers}
+use Rattle.refusal.specs.Said.{said}
+use Rattle.frame.specs.Format.{Parts, field, optional, optional_fits, named, written, word, year_named, day_named, share_named, number_in, name_answers}
 use Rattle.frame.specs.Reading.{frame_of, name_by, name_of}
 use Rattle.frame.proofs.Sizes.{measured}
 use Rattle.frame_laws.specs.Runs.{Bytes}
@@ -14,7 +13,6 @@ use Rattle.frame_laws.proofs.Main.{written_reads, read_writes}
 use Rattle.reading.specs.declared.sets.ReadingSet.{ReadingSet}
 use Rattle.reading.specs.declared.sets.Shape.{Shape}
 use Rattle.reading.specs.declared.sets.Shape.TheVariants.{Amount, Water, Steam, Wastewater}
-use Rattle.reading.specs.Limited.{lawful_set}
 use Rattle.reading.specs.Layout.{Held, shape_of, set_in, set_bytes}
 use Rattle.reading.proofs.Joined.{read_back, written_back}
 use Rattle.record.specs.declared.raw.RawRecord.{RawRecord}

@@ -1,4 +1,4 @@
-use Rattle.std.proofs.Common.{◌≡◌, ◌+◌, ◌*◌, ◌≤◌, length, get_or, arith, rules}
+use Rattle.std.proofs.Common.{◌+◌, ◌*◌, rules}
 use Rattle.std.proofs.lemmas.List.{take_rest}
 use Rattle.frame_log.proofs.First.{lawful_log}
 use Rattle.frame_log.proofs.count.Goals as goal

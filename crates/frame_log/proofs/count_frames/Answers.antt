@@ -1,6 +1,5 @@
-use Rattle.std.proofs.Common.{◌≡◌, ◌+◌, true, false, length, sym, ap, ◌∙◌, subst, arith}
+use Rattle.std.proofs.Common.{true, false, length, ap, arith}
 use Rattle.std.proofs.lemmas.List.{length-append}
-use Rattle.frame_log.specs.Log.{taken_by}
 use Rattle.frame_log.proofs.Along.{along_more}
 use Rattle.frame_log.proofs.count_frames.Goals as goal
 use Rattle.frame_log.proofs.count_frames.Goals.{then-is_taken, else-is_taken}

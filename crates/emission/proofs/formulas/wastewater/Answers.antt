@@ -1,4 +1,4 @@
-use Rattle.std.proofs.Common.{◌*◌, ◌^◌, ◌<◌, ◌≤◌, le_trans, le_of_lt, mul-le-mul, arith}
+use Rattle.std.proofs.Common.{◌*◌, ◌^◌, ◌≤◌, mul-le-mul, arith}
 use Rattle.emission.proofs.formulas.wastewater.Goals as goal
 
 pub overflow_mul-result-2 : goal.overflow_mul-result-2

@@ -1,4 +1,4 @@
-use Rattle.std.proofs.Common.{◌≡◌, ℕ, ◌≤◌, sym, refl, ap, ◌∙◌, subst, arith}
+use Rattle.std.proofs.Common.{◌≤◌, sym, refl, ap, ◌∙◌, subst, arith}
 use Rattle.std.proofs.lemmas.Result.{err_from_is_err_and}
 use Rattle.reading.specs.Quantity.{quantities_of}
 use Rattle.kind.specs.Kinds.{numbers_of}
@@ -6,7 +6,6 @@ use Rattle.record.specs.Views.{raw_of}
 use Rattle.emission.specs.Emission.{emission_parts, InRange}
 use Rattle.rounding.proofs.Laws.{at_most}
 use Rattle.emission.specs.Parts.{grams_of, most_grams}
-use Rattle.emission.specs.Views.{kept_of}
 use Rattle.emission.proofs.Within.{in_range}
 use Rattle.emission.proofs.Bounds.{factor_limits, parts_most}
 use Rattle.emission.proofs.Entered.{cod_refused, factor_refused, methane_refused, entered}

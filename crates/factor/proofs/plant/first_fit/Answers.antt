@@ -1,4 +1,4 @@
-use Rattle.std.proofs.Common.{length, Some, sym, ap, ◌∙◌, arith}
+use Rattle.std.proofs.Common.{Some, sym, ap, ◌∙◌, arith}
 use Rattle.std.proofs.lemmas.List.{at_drop_all}
 use Rattle.factor.specs.Questions.{asked_of}
 use Rattle.factor.specs.PlantRows.{first_fit}

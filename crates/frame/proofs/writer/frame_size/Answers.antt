@@ -1,6 +1,6 @@
 use Rattle.std.proofs.Common.{arith}
 use Rattle.frame.specs.Views.{parts_of}
-use Rattle.frame.proofs.Sizes.{measured, length_written, length_share}
+use Rattle.frame.proofs.Sizes.{measured, length_written}
 use Rattle.frame.proofs.writer.frame_size.Goals as goal
 
 pub name_size-requires : goal.name_size-requires

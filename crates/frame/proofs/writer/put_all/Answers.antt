@@ -1,7 +1,7 @@
-use Rattle.std.proofs.Common.{◌≡◌, ◌+◌, ◌≤◌, true, [], ◌∷◌, length, refl, arith}
+use Rattle.std.proofs.Common.{◌+◌, [], ◌∷◌, length, refl, arith}
 use Rattle.frame.specs.Views.{parts_of}
-use Rattle.frame.specs.Format.{Parts, written, field, optional, named, sound}
-use Rattle.frame.proofs.Sizes.{measured, length_written, length_named, length_share}
+use Rattle.frame.specs.Format.{field, optional, named}
+use Rattle.frame.proofs.Sizes.{measured, length_written}
 use Rattle.frame.proofs.Puts.{begun_none, begun_more, begun_all}
 use Rattle.frame.proofs.writer.put_all.Goals as goal
 

@@ -1,5 +1,4 @@
-use Rattle.std.proofs.Common.{◌≡◌, true, false, sym, ◌∙◌, arith, rules}
-use Rattle.frame.specs.Format.{sound}
+use Rattle.std.proofs.Common.{◌∙◌, rules}
 use Rattle.frame.specs.Views.{parts_of}
 use Rattle.frame.proofs.Puts.{write_unsound, write_short, write_done}
 use Rattle.frame.proofs.writer.write.Goals as goal

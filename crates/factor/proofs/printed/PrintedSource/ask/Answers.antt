@@ -1,4 +1,4 @@
-use Rattle.std.proofs.Common.{◌≡◌, Option, sym, refl, ◌∙◌, subst, rules}
+use Rattle.std.proofs.Common.{◌≡◌, Option, sym, refl, subst, rules}
 use Rattle.factor.specs.declared.question.Factor.{Factor}
 use Rattle.factor.specs.Printed.{printed_answer}
 use Rattle.factor.specs.Questions.{asked_of}
