@@ -118,6 +118,9 @@ def main(arguments):
         for problem in problems:
             print("problem:", problem)
         return 0
+    if problems:
+        print("\n".join(problems), file=sys.stderr)
+        return 1
     for path in antt_files() + code_files():
         text = path.read_text()
         goals = path.name == "Answers.antt"

@@ -2,7 +2,7 @@ ghost use Rattle.std.specs.Prelude.{◌≡◌, true, MatchOption};
 ghost use Rattle.refusal.specs.Said.{said};
 ghost use Rattle.emission.specs.Entries.{Kept};
 ghost use Rattle.months.specs.declared.state.Event.TheVariants.{Hold as HoldEvent, Release as ReleaseEvent, Close as CloseEvent};
-ghost use Rattle.journal.specs.Calls.{offer as offerCall, withdraw as withdrawCall, turn as turnCall, a_month};
+ghost use Rattle.journal.specs.Calls.{offer as offer_call, withdraw as withdraw_call, turn as turn_call, a_month};
 ghost use Rattle.journal.specs.Contents.{Step, New, Row, Marked, usable};
 ghost use Rattle.journal.specs.Faults.{refusal_of};
 ghost use Rattle.journal.specs.Runs.{Extends};
@@ -36,8 +36,8 @@ impl<'m> Book<'m> {
 
     // Books what a frame records, with the factor that the source holds for it.
     pub fn offer<S: Source>(&mut self, frame: &[u8], source: &mut S) -> Result<Booked, BookFault>
-        ensures step { Step (contents_of self.old) (offerCall frame.now (S.Source.table source.old)) (said booked_of refusal_of result) (contents_of self.new) }
-        ensures follows { Extends (contents_of self.old) (offerCall frame.now (S.Source.table source.old)) (said booked_of refusal_of result) (contents_of self.new) }
+        ensures step { Step (contents_of self.old) (offer_call frame.now (S.Source.table source.old)) (said booked_of refusal_of result) (contents_of self.new) }
+        ensures follows { Extends (contents_of self.old) (offer_call frame.now (S.Source.table source.old)) (said booked_of refusal_of result) (contents_of self.new) }
         ensures same { S.Source.table source.new ≡ S.Source.table source.old }
         ensures memory { self.new.journal.rows.ghost_name ≡ self.old.journal.rows.ghost_name }
     {
@@ -82,8 +82,8 @@ impl<'m> Book<'m> {
 
     // The entry stays in the journal and no longer stands.
     pub fn withdraw(&mut self, number: usize) -> Result<Booked, BookFault>
-        ensures step { Step (contents_of self.old) (withdrawCall number) (said booked_of refusal_of result) (contents_of self.new) }
-        ensures follows { Extends (contents_of self.old) (withdrawCall number) (said booked_of refusal_of result) (contents_of self.new) }
+        ensures step { Step (contents_of self.old) (withdraw_call number) (said booked_of refusal_of result) (contents_of self.new) }
+        ensures follows { Extends (contents_of self.old) (withdraw_call number) (said booked_of refusal_of result) (contents_of self.new) }
         ensures memory { self.new.journal.rows.ghost_name ≡ self.old.journal.rows.ghost_name }
     {
         let Some(row) = self.standing(number) else {
@@ -106,8 +106,8 @@ impl<'m> Book<'m> {
     }
 
     fn turn(&mut self, month: u8, event: Event) -> Result<u8, BookFault>
-        ensures step { Step (contents_of self.old) (turnCall month event) (said a_month refusal_of result) (contents_of self.new) }
-        ensures follows { Extends (contents_of self.old) (turnCall month event) (said a_month refusal_of result) (contents_of self.new) }
+        ensures step { Step (contents_of self.old) (turn_call month event) (said a_month refusal_of result) (contents_of self.new) }
+        ensures follows { Extends (contents_of self.old) (turn_call month event) (said a_month refusal_of result) (contents_of self.new) }
         ensures memory { self.new.journal.rows.ghost_name ≡ self.old.journal.rows.ghost_name }
     {
         let Some(named) = Month::new(month) else {
@@ -122,8 +122,8 @@ impl<'m> Book<'m> {
 
     // Holds an open month: it takes no more frames; withdrawals are still taken.
     pub fn hold(&mut self, month: u8) -> Result<u8, BookFault>
-        ensures step { Step (contents_of self.old) (turnCall month HoldEvent) (said a_month refusal_of result) (contents_of self.new) }
-        ensures follows { Extends (contents_of self.old) (turnCall month HoldEvent) (said a_month refusal_of result) (contents_of self.new) }
+        ensures step { Step (contents_of self.old) (turn_call month HoldEvent) (said a_month refusal_of result) (contents_of self.new) }
+        ensures follows { Extends (contents_of self.old) (turn_call month HoldEvent) (said a_month refusal_of result) (contents_of self.new) }
         ensures memory { self.new.journal.rows.ghost_name ≡ self.old.journal.rows.ghost_name }
     {
         self.turn(month, Event::Hold)
@@ -131,8 +131,8 @@ impl<'m> Book<'m> {
 
     // Opens a held month again.
     pub fn release(&mut self, month: u8) -> Result<u8, BookFault>
-        ensures step { Step (contents_of self.old) (turnCall month ReleaseEvent) (said a_month refusal_of result) (contents_of self.new) }
-        ensures follows { Extends (contents_of self.old) (turnCall month ReleaseEvent) (said a_month refusal_of result) (contents_of self.new) }
+        ensures step { Step (contents_of self.old) (turn_call month ReleaseEvent) (said a_month refusal_of result) (contents_of self.new) }
+        ensures follows { Extends (contents_of self.old) (turn_call month ReleaseEvent) (said a_month refusal_of result) (contents_of self.new) }
         ensures memory { self.new.journal.rows.ghost_name ≡ self.old.journal.rows.ghost_name }
     {
         self.turn(month, Event::Release)
@@ -140,8 +140,8 @@ impl<'m> Book<'m> {
 
     // Closes a held month for good.
     pub fn close(&mut self, month: u8) -> Result<u8, BookFault>
-        ensures step { Step (contents_of self.old) (turnCall month CloseEvent) (said a_month refusal_of result) (contents_of self.new) }
-        ensures follows { Extends (contents_of self.old) (turnCall month CloseEvent) (said a_month refusal_of result) (contents_of self.new) }
+        ensures step { Step (contents_of self.old) (turn_call month CloseEvent) (said a_month refusal_of result) (contents_of self.new) }
+        ensures follows { Extends (contents_of self.old) (turn_call month CloseEvent) (said a_month refusal_of result) (contents_of self.new) }
         ensures memory { self.new.journal.rows.ghost_name ≡ self.old.journal.rows.ghost_name }
     {
         self.turn(month, Event::Close)
