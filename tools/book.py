@@ -34,6 +34,7 @@ from fractions import Fraction
 
 import emissions
 import expected
+import files
 from emissions import Entry, Source
 from expected import BOOK, Refused
 
@@ -260,19 +261,5 @@ def printed_year(log: bytes) -> str:
     return "".join(row + "\n" for row in rows)
 
 
-def main(arguments: list[str]) -> int:
-    if len(arguments) != 1:
-        print("usage: python3 tools/book.py LOGFILE", file=sys.stderr)
-        return 2
-    try:
-        with open(arguments[0], "rb") as file:
-            log = file.read()
-    except OSError as error:
-        print(f"{arguments[0]}: {error.strerror}", file=sys.stderr)
-        return 2
-    sys.stdout.write(printed_year(log))
-    return 0
-
-
 if __name__ == "__main__":
-    sys.exit(main(sys.argv[1:]))
+    sys.exit(files.print_of_log("book.py", printed_year, sys.argv[1:]))

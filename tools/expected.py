@@ -10,9 +10,14 @@ prints the line `year taken refused` of a log.
 """
 
 import sys
+
+sys.dont_write_bytecode = True
+
 from dataclasses import dataclass
 from fractions import Fraction
 from math import floor
+
+import files
 
 # The layers that refuse.
 FRAME = "frame"
@@ -334,19 +339,5 @@ def log_line(log: bytes) -> str:
     return "%d %d %d\n" % log_counts(log)
 
 
-def main(arguments: list[str]) -> int:
-    if len(arguments) != 1:
-        print("usage: python3 tools/expected.py LOGFILE", file=sys.stderr)
-        return 2
-    try:
-        with open(arguments[0], "rb") as file:
-            log = file.read()
-    except OSError as error:
-        print(f"{arguments[0]}: {error.strerror}", file=sys.stderr)
-        return 2
-    sys.stdout.write(log_line(log))
-    return 0
-
-
 if __name__ == "__main__":
-    sys.exit(main(sys.argv[1:]))
+    sys.exit(files.print_of_log("expected.py", log_line, sys.argv[1:]))

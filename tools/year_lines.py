@@ -191,14 +191,7 @@ def main(arguments: list[str]) -> int:
     check_prints()
     whole = log()
     printed = book.printed_year(whole)
-    status = files.settle(
-        {
-            "examples/year_lines.log": whole,
-            "crates/year_lines/stdin": whole,
-            "crates/year_lines/stdout": printed.encode("ascii"),
-        },
-        arguments,
-    )
+    status = files.settle_log("year_lines.log", "year_lines", whole, printed, arguments)
     print(f"{len(whole)} bytes: {printed.splitlines()[0]}")
     return status
 

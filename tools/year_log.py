@@ -105,14 +105,7 @@ def main(arguments: list[str]) -> int:
     check_counts()
     whole = log()
     line = expected.log_line(whole)
-    status = files.settle(
-        {
-            "examples/year.log": whole,
-            "crates/carbon_year/stdin": whole,
-            "crates/carbon_year/stdout": line.encode("ascii"),
-        },
-        arguments,
-    )
+    status = files.settle_log("year.log", "carbon_year", whole, line, arguments)
     print(f"{len(whole)} bytes: {line}", end="")
     return status
 

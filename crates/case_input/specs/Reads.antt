@@ -1,5 +1,6 @@
 -- What is read off the front of the bytes that are left.
 use Rattle.std.specs.Prelude.{◌≡◌, ℕ, ◌+◌, ◌*◌, ◌≤◌, List, length, drop, slice_index}
+use Rattle.factor.specs.declared.plant.PlantRow.{PlantRow}
 use Rattle.case_input.specs.declared.input.Input.{Input}
 
 abbrev pub left_of : Input → List ℕ
@@ -16,3 +17,15 @@ two_at bytes i = slice_index bytes i * 256 + slice_index bytes (i + 1)
 
 abbrev pub four : List ℕ → ℕ
 four bytes = two_at bytes 0 * 65536 + two_at bytes 2
+
+-- a plant list's row of sixteen bytes
+abbrev pub row_of : List ℕ → PlantRow
+row_of bytes = record {
+  class = slice_index bytes 0;
+  item = slice_index bytes 1;
+  tier = four (drop 2 bytes);
+  first_year = two_at bytes 6;
+  last_year = two_at bytes 8;
+  rate = four (drop 10 bytes);
+  share = two_at bytes 14;
+}

@@ -1,5 +1,6 @@
 ghost use Rattle.std.specs.Prelude.{◌≡◌, ◌+◌, ◌<◌, false, [], ◌∷◌, length, take, drop, IfOk, MatchResult, ◌==◌, nat_eq, slice_index};
-ghost use Rattle.case_input.specs.Reads.{left_of, Past, two_at, four};
+ghost use Rattle.reading.specs.Fields.{Meaning};
+ghost use Rattle.case_input.specs.Reads.{left_of, Past, two_at, four, row_of};
 
 use anyhow::anyhow;
 use factor::PlantRow;
@@ -89,7 +90,9 @@ impl<'i> Input<'i> {
         Ok(u32::from(high) * 65536 + u32::from(low))
     }
 
-    pub fn reading(&mut self) -> anyhow::Result<f32> {
+    pub fn reading(&mut self) -> anyhow::Result<f32>
+        ensures { IfOk result (λ x. Meaning (four (left_of self.old)) x × Past 4 (left_of self.old) (left_of self.new)) }
+    {
         Ok(reading::from_bytes(self.double_word()?.to_be_bytes()))
     }
 
@@ -110,7 +113,9 @@ impl<'i> Input<'i> {
         self.bytes(usize::from(length))
     }
 
-    pub fn row(&mut self) -> anyhow::Result<PlantRow> {
+    pub fn row(&mut self) -> anyhow::Result<PlantRow>
+        ensures { IfOk result (λ r. (r ≡ row_of (left_of self.old)) × Past 16 (left_of self.old) (left_of self.new)) }
+    {
         Ok(PlantRow {
             class: self.byte()?,
             item: self.byte()?,

@@ -1,3 +1,5 @@
+ghost use Rattle.std.specs.Prelude.{◌≡◌, ◌<ℤ◌, ◌↔◌, IsTrue, false, pos, unsigned_abs};
+
 use std::fmt;
 
 const GRAMS_PER_TONNE: u64 = 1_000_000;
@@ -10,7 +12,10 @@ pub struct Tonnes {
 }
 
 impl Tonnes {
-    pub fn of(grams: u64) -> Tonnes {
+    pub fn of(grams: u64) -> Tonnes
+        ensures sign { result.is_negative ≡ false }
+        ensures amount { result.grams ≡ grams }
+    {
         Tonnes {
             is_negative: false,
             grams,
@@ -18,7 +23,10 @@ impl Tonnes {
     }
 
     // More may be sold than was emitted.
-    pub fn net(grams: i64) -> Tonnes {
+    pub fn net(grams: i64) -> Tonnes
+        ensures sign { IsTrue result.is_negative ↔ (grams <ℤ pos 0) }
+        ensures amount { result.grams ≡ unsigned_abs grams }
+    {
         Tonnes {
             is_negative: grams < 0,
             grams: grams.unsigned_abs(),

@@ -1,7 +1,9 @@
-ghost use Rattle.std.specs.Prelude.{◌≡◌, ◌*◌, ◌≤◌};
+ghost use Rattle.std.specs.Prelude.{◌≡◌, ◌*◌, ◌≤◌, IfErr, if◌then◌else◌, is_some};
 ghost use Rattle.refusal.specs.Said.{said};
+ghost use Rattle.calendar.specs.Months.{month_in};
 ghost use Rattle.emission.specs.Parts.{most_grams};
 ghost use Rattle.months.specs.Lines.{line_number};
+ghost use Rattle.journal.specs.declared.fault.BookFault.TheVariants.{NoSuchMonth, NoSuchLine};
 ghost use Rattle.journal.specs.Faults.{refusal_of};
 ghost use Rattle.journal.specs.Reads.{line_read, year_figure, year_line_read, total_count, net_grams};
 ghost use Rattle.journal.specs.Runs.{TellsLine, TellsYearLine, TellsTotal};
@@ -24,6 +26,7 @@ impl<'m> Book<'m> {
     pub fn line(&self, month: u8, line: u8) -> Result<Figure, BookFault>
         ensures reads { said (λ f. f) refusal_of result ≡ line_read self.now.months month line }
         ensures told { TellsLine (contents_of self.now) month line (said (λ f. f) refusal_of result) }
+        ensures fault { IfErr result (λ e. e ≡ (if is_some (month_in month) then NoSuchLine else NoSuchMonth)) }
     {
         let Some(month) = Month::new(month) else {
             return Err(BookFault::NoSuchMonth);
@@ -56,6 +59,7 @@ impl<'m> Book<'m> {
     pub fn year_line(&self, line: u8) -> Result<Figure, BookFault>
         ensures reads { said (λ f. f) refusal_of result ≡ year_line_read self.now.months line }
         ensures told { TellsYearLine (contents_of self.now) line (said (λ f. f) refusal_of result) }
+        ensures fault { IfErr result (λ e. e ≡ NoSuchLine) }
     {
         match Line::new(line) {
             Some(line) => Ok(self.year_figure(line)),
