@@ -1,15 +1,19 @@
 // What holds of every set and of some readings, as calls that say so.
+ghost use Rattle.std.specs.Prelude.{◌≡◌};
 ghost use Rattle.reading.specs.Laws.{Stands, Examples};
 
 // A set and its bytes determine each other.
 pub fn sets_stand() -> u8
-    ensures { Stands }
+    ensures zero { result ≡ 0 }
+    ensures sets { Stands }
 {
     0
 }
 
+// Readings at and past a limit, and quantities of known readings.
 pub fn examples_stand() -> u8
-    ensures { Examples }
+    ensures zero { result ≡ 0 }
+    ensures examples { Examples }
 {
     0
 }

@@ -24,7 +24,8 @@ pub fn nearest_whole(over: u128, under: u128) -> Option<u128>
 
 // Each fraction has one nearest whole number, and `nearest` gives it.
 pub fn nearest_stands() -> u8
-    ensures { Stands }
+    ensures zero { result ≡ 0 }
+    ensures one { Stands }
 {
     0
 }

@@ -5,4 +5,4 @@ use Rattle.reading.proofs.laws.examples_stand.Goals as goal
 
 pub returns : goal.returns
 unfolding of_bits clear lawful
-returns c = (refl, refl, refl, refl, refl, refl, refl, refl, refl, refl)
+returns c = record { zero = refl; examples = (refl, refl, refl, refl, refl, refl, refl, refl, refl, refl) }
