@@ -1,56 +1,37 @@
 // Reads generated calls from standard input, makes them of books, and prints what each is answered, one line to a call.
 #![tactic(auto)]
 
-mod changes;
-mod figures;
+mod calls;
+mod told;
 
 use anyhow::anyhow;
-use book::Book;
 use calendar::Year;
-use case_input::{Input, NO_ROW, ROWS, put_refusal};
-use changes::{event_call, offer_call, row_call, withdraw_call};
+use calls::OpenBook;
+use case_input::{Input, Mode, NO_ROW, ROWS, Sources};
 use factor::{Pair, PlantList, Printed};
-use figures::{line_call, total_call, year_line_call};
 use journal::JournalEntry;
-use std::alloc::Global;
+use refusal::Refusal;
 use std::io::Read;
 use year::open;
 
 // The call that opens a year.
 const OPEN: u8 = 0;
 
-fn answer(
-    heap: Global,
-    input: &mut Input<'_>,
-    book: &mut Book<'_>,
-    pair: &mut Pair<PlantList<'_>, Printed>,
-) -> anyhow::Result<String> {
-    match input.byte()? {
-        1 => row_call(heap, input, &mut pair.measured),
-        2 => offer_call(heap, input, book, pair),
-        3 => withdraw_call(heap, input, book),
-        4 => event_call(heap, input, book),
-        5 => line_call(heap, input, book),
-        6 => year_line_call(heap, input, book),
-        7 => total_call(heap, book),
-        _ => Err(anyhow!("no such call")),
-    }
-}
-
 // Makes all calls of one book.
 fn answer_all(
     rt: &HostRuntime,
     input: &mut Input<'_>,
-    book: &mut Book<'_>,
-    pair: &mut Pair<PlantList<'_>, Printed>,
+    open_book: &mut OpenBook<'_>,
 ) -> anyhow::Result<()> {
-    // Every call takes a byte at least.
+    // Every call takes a byte at least; for a `while` each method of `OpenBook` that reads would have to promise it.
     for _ in 0..input.len() {
         if input.is_empty() || input.is_at(OPEN) {
             break;
         }
-        let line = answer(rt.alloc(), input, book, pair)?;
-        rt.println(line.as_str())?;
+        match open_book.answer(input)? {
+            Ok(told) => println!(rt; "{told}")?,
+            Err(refusal) => println!(rt; "{refusal}")?,
+        }
     }
     Ok(())
 }
@@ -59,20 +40,22 @@ fn answer_all(
 fn open_call(rt: &HostRuntime, input: &mut Input<'_>) -> anyhow::Result<()> {
     let number = input.word()?;
     let entries = input.double_word()? as usize;
-    match Year::new(number) {
+    match Year::try_from(number) {
         Ok(year) => {
             let mut memory = vec![in rt.alloc(); JournalEntry::blank(); entries]?;
-            let mut book = open(year, memory.as_mut_slice());
             let mut rows = [NO_ROW; ROWS];
-            let mut pair = Pair::new(PlantList::new(&mut rows), Printed);
-            let opened = book.year().number();
-            println!(rt; "year {opened}")?;
-            answer_all(rt, input, &mut book, &mut pair)
+            let mut open_book = OpenBook {
+                book: open(year, memory.as_mut_slice()),
+                sources: Sources {
+                    pair: Pair::new(PlantList::new(&mut rows), Printed),
+                    mode: Mode::Neither,
+                },
+            };
+            println!(rt; "year {}", open_book.book.year().number())?;
+            answer_all(rt, input, &mut open_book)
         }
         Err(fault) => {
-            let mut out = String::new(rt.alloc());
-            put_refusal(&mut out, fault.refusal())?;
-            rt.println(out.as_str())?;
+            println!(rt; "{}", Refusal::from(fault))?;
             Ok(())
         }
     }
@@ -82,6 +65,7 @@ fn run(rt: &HostRuntime) -> anyhow::Result<()> {
     let mut bytes = Vec::new(rt.alloc());
     rt.stdin().read_to_end(&mut bytes)?;
     let mut input = Input::new(bytes.as_slice());
+    // Every year takes a byte at least, as above.
     for _ in 0..bytes.len() {
         if input.is_empty() {
             break;

@@ -1,2 +1,1 @@
 pub mod Offerings
-pub mod Along

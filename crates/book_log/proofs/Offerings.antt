@@ -1,5 +1,7 @@
 -- Frames offered one after another. Assumes nothing.
 use Rattle.std.proofs.Common.{◌≡◌, ℕ, ◌+◌, cond, List, [], ◌∷◌, ◌++◌, is_ok, Ok, Err, Result, sym, refl, ◌∙◌, subst, add-zero, add_assoc}
+use Rattle.std.proofs.lemmas.Fn.{chained_keeps}
+use Rattle.std.specs.List.{FoldsTo}
 use Rattle.refusal.specs.declared.Refusal.{Refusal}
 use Rattle.refusal.specs.Said.{said}
 use Rattle.emission.specs.Entries.{Table}
@@ -50,3 +52,8 @@ offered_one {f = f} {t = t} (Err x) g = record {
   follows = λ y n h w. (g y n h w).follows;
   takes = λ y n k h w z. subst (Taken y n (offer f t ∷ h)) (sym (add-zero k)) (err_refused (λ j c. (agrees w).counted j c ∙ sym ((agrees w).counted k z)) (g y n h w).answers);
 }
+
+-- what holds from the first state on, and after each call, holds after all calls
+pub from_start : {A P : Type 0} (R : P → A → P → Type 0) (J : P → List A → P → Type 0) → ((p : P) (xs : List A) (q : P) (x : A) (v : P) → J p xs q → R q x v → J p (xs ++ x ∷ []) v)
+    → (xs : List A) (p q : P) → FoldsTo R p xs q → J p [] p → J p xs q
+from_start R J keeps xs p q h first = chained_keeps R (J p) (keeps p) xs p q first h

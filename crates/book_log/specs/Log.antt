@@ -1,23 +1,10 @@
--- What a log spells, and what offering its frames to a book comes to.
-use Rattle.std.specs.Prelude.{◌≡◌, ℕ, ◌+◌, ◌<◌, ◌≤◌, true, false, List, [], ◌∷◌, length}
-use Rattle.calendar.specs.Calendar.{year_lawful}
-use Rattle.frame.specs.Format.{word}
+-- What offering the frames of a log to a book comes to.
+use Rattle.std.specs.Prelude.{◌≡◌, ℕ, ◌+◌, List, [], ◌∷◌, length}
 use Rattle.frame_log.specs.Log.{Spells, cut_count}
 use Rattle.emission.specs.Entries.{Table}
 use Rattle.journal.specs.Calls.{Call, offer}
 use Rattle.journal.specs.Words.{Taken}
 use Rattle.journal.specs.Contents.{Contents, Follows}
-
--- the log begins with a lawful year
-pub record Names (log : List ℕ) (year : ℕ) : Type 0 where
-  pub long : 2 ≤ length log
-  pub is : year ≡ word log 0
-  pub lawful : year_lawful (word log 0) ≡ true
-
--- the log begins with no lawful year
-pub data Yearless (log : List ℕ) : Type 0 where
-  year_cut : length log < 2 → Yearless log
-  unlawful : 2 ≤ length log → year_lawful (word log 0) ≡ false → Yearless log
 
 -- the offerings of the frames in their order, put before the calls h, the newest first
 abbrev pub offerings : Table → List (List ℕ) → List Call → List Call

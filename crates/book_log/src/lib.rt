@@ -2,8 +2,8 @@
 // Its frames are offered to the book of that year, one after another.
 #![tactic(auto)]
 
-mod heading;
 mod offering;
+mod taker;
 
-pub use heading::{frames_of, year_of};
-pub use offering::{Counts, offer_frames};
+pub use frame_log::{Counts, frames_of, year_of};
+pub use offering::offer_frames;

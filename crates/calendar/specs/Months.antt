@@ -10,6 +10,10 @@ lengths is_leap = 31 ∷ cond is_leap 29 28 ∷ 31 ∷ 30 ∷ 31 ∷ 30 ∷ 31 �
 abbrev pub month_in : ℕ → Option ℕ
 month_in m = cond (nat_le 1 m && nat_le m 12) (Some m) None
 
+-- the numbers of the months from January on
+abbrev pub month_numbers : List ℕ
+month_numbers = 1 ∷ 2 ∷ 3 ∷ 4 ∷ 5 ∷ 6 ∷ 7 ∷ 8 ∷ 9 ∷ 10 ∷ 11 ∷ 12 ∷ []
+
 -- the day of the year on which month m begins
 abbrev pub first_day : ℕ → ℕ → ℕ
 first_day y m = 1 + sum (take (m - 1) (lengths (leap y)))

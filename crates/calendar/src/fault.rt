@@ -10,11 +10,11 @@ pub enum DateFault {
     DayUnlawful,
 }
 
-impl DateFault {
-    pub fn refusal(self) -> Refusal
-        ensures { result ≡ refusal_of self }
-    {
-        match self {
+impl From<DateFault> for Refusal {
+    ghost from_gives = { λ e r. r ≡ refusal_of e };
+
+    fn from(fault: DateFault) -> Refusal {
+        match fault {
             DateFault::YearUnlawful | DateFault::DayUnlawful => Refusal {
                 layer: Layer::Record,
                 number: 6,

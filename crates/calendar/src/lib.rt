@@ -10,6 +10,6 @@ mod year;
 
 pub use day::Day;
 pub use fault::DateFault;
-pub use month::Month;
+pub use month::{Month, NoSuchMonth};
 pub use stands::calendar_stands;
 pub use year::Year;

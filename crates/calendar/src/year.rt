@@ -17,18 +17,23 @@ pub struct Year {
     ghost lawful: { T (year_lawful number) },
 }
 
-impl Year {
-    pub fn new(number: u16) -> Result<Year, DateFault>
-        ensures gives { said {T = Year} (λ y. y.number) refusal_of result ≡ year_in number }
-        ensures faults { IfErr result (λ e. e ≡ YearUnlawful) }
-    {
+impl TryFrom<u16> for Year {
+    type Error = DateFault;
+
+    ghost use Rattle.calendar.specs.declared.year.Year.{Year};
+
+    ghost try_from_gives = { λ n r. (said {T = Year} (λ y. y.number) refusal_of r ≡ year_in n) × IfErr r (λ e. e ≡ YearUnlawful) };
+
+    fn try_from(number: u16) -> Result<Year, DateFault> {
         if FIRST_YEAR <= number && number <= LAST_YEAR {
             Ok(Year { number })
         } else {
             Err(DateFault::YearUnlawful)
         }
     }
+}
 
+impl Year {
     pub fn number(self) -> u16
         ensures { result ≡ self.number }
     {

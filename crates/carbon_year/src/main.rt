@@ -7,10 +7,9 @@ use std::io::Read;
 fn main(rt: HostRuntime) -> anyhow::Result<()> {
     let mut log = Vec::new(rt.alloc());
     rt.stdin().read_to_end(&mut log)?;
-    let counts = count(log.as_slice());
-    let year = counts.year;
-    let taken = counts.taken;
-    let refused = counts.refused;
-    println!(rt; "{year} {taken} {refused}")?;
+    match count(log.as_slice()) {
+        Some((year, counts)) => println!(rt; "{} {counts}", year.number())?,
+        None => println!(rt; "0 0 0")?,
+    }
     Ok(())
 }

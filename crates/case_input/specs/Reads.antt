@@ -1,6 +1,8 @@
 -- What is read off the front of the bytes that are left.
-use Rattle.std.specs.Prelude.{◌≡◌, ℕ, ◌+◌, ◌*◌, ◌≤◌, List, length, drop, slice_index}
+use Rattle.std.specs.Prelude.{◌≡◌, ℕ, ◌+◌, ◌*◌, ◌<◌, ◌≤◌, List, length, drop, slice_index}
 use Rattle.factor.specs.declared.plant.PlantRow.{PlantRow}
+use Rattle.case_input.specs.declared.fault.InputFault.{InputFault}
+use Rattle.case_input.specs.declared.fault.InputFault.TheVariants.{CutOff}
 use Rattle.case_input.specs.declared.input.Input.{Input}
 
 abbrev pub left_of : Input → List ℕ
@@ -10,6 +12,11 @@ left_of input = input.rest.now
 pub record Past (n : ℕ) (before after : List ℕ) : Type 0 where
   pub there : n ≤ length before
   pub left : after ≡ drop n before
+
+-- the input is cut off before so many bytes
+pub record EndsBefore (n : ℕ) (before : List ℕ) (fault : InputFault) : Type 0 where
+  pub is : fault ≡ CutOff
+  pub short : length before < n
 
 -- two bytes as a number, and four, the high byte first
 abbrev pub two_at : List ℕ → ℕ → ℕ

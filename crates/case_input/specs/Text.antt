@@ -1,9 +1,8 @@
--- How a refusal is printed.
-use Rattle.std.specs.Prelude.{ℕ, List, ◌++◌, codes}
-use Rattle.std.specs.Fmt.{decimal}
-use Rattle.refusal.specs.declared.Refusal.{Refusal}
-use Rattle.refusal.specs.Words.{word}
+-- How a fault of the input is printed.
+use Rattle.std.specs.Prelude.{ℕ, List, codes}
+use Rattle.case_input.specs.declared.fault.InputFault.{InputFault}
+use Rattle.case_input.specs.declared.fault.InputFault.TheVariants.{CutOff, NoCharacter}
 
--- its layer's word, its number and its place
-abbrev pub refusal_text : Refusal → List ℕ
-refusal_text r = codes "refused " ++ word r.layer ++ codes " " ++ decimal r.number ++ codes " " ++ decimal r.place
+abbrev pub fault_text : InputFault → List ℕ
+fault_text CutOff = codes "the input is cut off"
+fault_text NoCharacter = codes "no character"

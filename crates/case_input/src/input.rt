@@ -1,14 +1,14 @@
-ghost use Rattle.std.specs.Prelude.{◌≡◌, ◌+◌, ◌<◌, false, [], ◌∷◌, length, take, drop, IfOk, MatchResult, ◌==◌, nat_eq, slice_index};
+ghost use Rattle.std.specs.Prelude.{◌≡◌, ◌+◌, false, [], ◌∷◌, length, take, drop, IfOk, MatchResult, ◌==◌, nat_eq, slice_index};
 ghost use Rattle.reading.specs.Fields.{Meaning};
-ghost use Rattle.case_input.specs.Reads.{left_of, Past, two_at, four, row_of};
+ghost use Rattle.case_input.specs.Reads.{left_of, Past, EndsBefore, two_at, four, row_of};
 
-use anyhow::anyhow;
+use crate::fault::InputFault;
 use factor::PlantRow;
 
 // Most rows that a plant list has.
 pub const ROWS: usize = 8;
 
-// To make the memory of a plant list of.
+// To make the memory of a plant list of, which has a fixed size: a row that never answers.
 pub const NO_ROW: PlantRow = PlantRow {
     class: 0,
     item: 0,
@@ -48,72 +48,68 @@ impl<'i> Input<'i> {
     pub fn is_at(&self, byte: u8) -> bool
         ensures { result ≡ elim (left_of self.now) [ [] ↦ false | first ∷ _ ↦ nat_eq first byte ] }
     {
-        match self.rest {
-            [first, ..] => *first == byte,
-            [] => false,
-        }
+        self.rest.first().is_some_and(|first| *first == byte)
     }
 
-    pub fn bytes(&mut self, n: usize) -> anyhow::Result<&'i [u8]>
-        ensures { MatchResult result (λ b. (b.now ≡ take n (left_of self.old)) × Past n (left_of self.old) (left_of self.new)) (λ _. length (left_of self.old) < n) }
+    pub fn bytes(&mut self, n: usize) -> Result<&'i [u8], InputFault>
+        ensures { MatchResult result (λ b. (b.now ≡ take n (left_of self.old)) × Past n (left_of self.old) (left_of self.new)) (EndsBefore n (left_of self.old)) }
     {
-        let rest = self.rest;
-        if rest.len() < n {
-            return Err(anyhow!("the input is cut off"));
-        }
-        self.rest = &rest[n..];
-        Ok(&rest[0..n])
+        let (bytes, rest) = self.rest.split_at_checked(n).ok_or(InputFault::CutOff)?;
+        self.rest = rest;
+        Ok(bytes)
     }
 
-    pub fn byte(&mut self) -> anyhow::Result<u8>
-        ensures { MatchResult result (λ b. (b ≡ slice_index (left_of self.old) 0) × Past 1 (left_of self.old) (left_of self.new)) (λ _. length (left_of self.old) < 1) }
+    // The next N bytes, by value.
+    pub fn array<const N: usize>(&mut self) -> Result<[u8; N], InputFault>
+        ensures { MatchResult result (λ b. (b ≡ take N (left_of self.old)) × Past N (left_of self.old) (left_of self.new)) (EndsBefore N (left_of self.old)) }
     {
-        match self.bytes(1)? {
-            [byte] => Ok(*byte),
-            _ => unreachable(),
-        }
+        let (first, rest) = self
+            .rest
+            .split_first_chunk::<N>()
+            .ok_or(InputFault::CutOff)?;
+        self.rest = rest;
+        Ok(*first)
     }
 
-    pub fn word(&mut self) -> anyhow::Result<u16>
-        ensures { MatchResult result (λ n. (n ≡ two_at (left_of self.old) 0) × Past 2 (left_of self.old) (left_of self.new)) (λ _. length (left_of self.old) < 2) }
+    pub fn byte(&mut self) -> Result<u8, InputFault>
+        ensures { MatchResult result (λ b. (b ≡ slice_index (left_of self.old) 0) × Past 1 (left_of self.old) (left_of self.new)) (EndsBefore 1 (left_of self.old)) }
     {
-        let high = self.byte()?;
-        let low = self.byte()?;
-        Ok(u16::from(high) * 256 + u16::from(low))
+        Ok(u8::from_be_bytes(self.array()?))
     }
 
-    pub fn double_word(&mut self) -> anyhow::Result<u32>
-        ensures { MatchResult result (λ n. (n ≡ four (left_of self.old)) × Past 4 (left_of self.old) (left_of self.new)) (λ _. length (left_of self.old) < 4) }
+    pub fn word(&mut self) -> Result<u16, InputFault>
+        ensures { MatchResult result (λ n. (n ≡ two_at (left_of self.old) 0) × Past 2 (left_of self.old) (left_of self.new)) (EndsBefore 2 (left_of self.old)) }
     {
-        let high = self.word()?;
-        let low = self.word()?;
-        Ok(u32::from(high) * 65536 + u32::from(low))
+        Ok(u16::from_be_bytes(self.array()?))
     }
 
-    pub fn reading(&mut self) -> anyhow::Result<f32>
+    pub fn double_word(&mut self) -> Result<u32, InputFault>
+        ensures { MatchResult result (λ n. (n ≡ four (left_of self.old)) × Past 4 (left_of self.old) (left_of self.new)) (EndsBefore 4 (left_of self.old)) }
+    {
+        Ok(u32::from_be_bytes(self.array()?))
+    }
+
+    pub fn reading(&mut self) -> Result<f32, InputFault>
         ensures { IfOk result (λ x. Meaning (four (left_of self.old)) x × Past 4 (left_of self.old) (left_of self.new)) }
     {
-        Ok(reading::from_bytes(self.double_word()?.to_be_bytes()))
+        Ok(reading::from_bytes(self.array()?))
     }
 
-    pub fn letter(&mut self) -> anyhow::Result<char>
+    pub fn letter(&mut self) -> Result<char, InputFault>
         ensures { IfOk result (λ c. (c ≡ four (left_of self.old)) × Past 4 (left_of self.old) (left_of self.new)) }
     {
-        match char::from_u32(self.double_word()?) {
-            Some(letter) => Ok(letter),
-            None => Err(anyhow!("no character")),
-        }
+        char::from_u32(self.double_word()?).ok_or(InputFault::NoCharacter)
     }
 
     // A frame after its length.
-    pub fn frame(&mut self) -> anyhow::Result<&'i [u8]>
-        ensures { MatchResult result (λ f. (f.now ≡ take (two_at (left_of self.old) 0) (drop 2 (left_of self.old))) × Past (2 + two_at (left_of self.old) 0) (left_of self.old) (left_of self.new)) (λ _. length (left_of self.old) < 2 + two_at (left_of self.old) 0) }
+    pub fn frame(&mut self) -> Result<&'i [u8], InputFault>
+        ensures { MatchResult result (λ f. (f.now ≡ take (two_at (left_of self.old) 0) (drop 2 (left_of self.old))) × Past (2 + two_at (left_of self.old) 0) (left_of self.old) (left_of self.new)) (EndsBefore (2 + two_at (left_of self.old) 0) (left_of self.old)) }
     {
         let length = self.word()?;
         self.bytes(usize::from(length))
     }
 
-    pub fn row(&mut self) -> anyhow::Result<PlantRow>
+    pub fn row(&mut self) -> Result<PlantRow, InputFault>
         ensures { IfOk result (λ r. (r ≡ row_of (left_of self.old)) × Past 16 (left_of self.old) (left_of self.new)) }
     {
         Ok(PlantRow {

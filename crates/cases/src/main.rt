@@ -12,6 +12,7 @@ use entries::entry_case;
 use std::io::Read;
 
 fn answer(rt: &HostRuntime, input: &mut Input<'_>) -> anyhow::Result<()> {
+    // The generated input numbers its cases; the numbers stand here alone.
     let line = match input.byte()? {
         0 => frame_case(rt.alloc(), input)?,
         1 => write_case(rt.alloc(), input)?,
@@ -27,7 +28,7 @@ fn run(rt: &HostRuntime) -> anyhow::Result<()> {
     let mut bytes = Vec::new(rt.alloc());
     rt.stdin().read_to_end(&mut bytes)?;
     let mut input = Input::new(bytes.as_slice());
-    // Every case takes a byte at least.
+    // Every case takes a byte at least; each function below would have to promise that for `while !input.is_empty()`.
     for _ in 0..bytes.len() {
         if input.is_empty() {
             break;

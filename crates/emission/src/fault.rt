@@ -6,7 +6,7 @@ use factor::FactorFault;
 use refusal::{Layer, Refusal};
 
 // Why a lawful record has no emission: its wastewater does not add up, or a fault of its factor.
-#[derive(Clone, Copy, PartialEq, Debug)]
+#[derive(Clone, Copy, PartialEq, Eq, Debug)]
 pub enum EmissionFault {
     OutletAboveInlet,
     SludgeAboveCod,
@@ -21,22 +21,19 @@ impl From<FactorFault> for EmissionFault {
     }
 }
 
-impl EmissionFault {
-    pub fn refusal(self) -> Refusal
-        ensures { result ≡ refusal_of self }
-    {
-        match self {
-            EmissionFault::OutletAboveInlet => Refusal {
-                layer: Layer::Record,
-                number: 11,
-                place: 1,
-            },
-            EmissionFault::SludgeAboveCod => Refusal {
-                layer: Layer::Record,
-                number: 11,
-                place: 2,
-            },
-            EmissionFault::Factor(fault) => fault.refusal(),
+impl From<EmissionFault> for Refusal {
+    ghost from_gives = { λ e r. r ≡ refusal_of e };
+
+    fn from(fault: EmissionFault) -> Refusal {
+        let place = match fault {
+            EmissionFault::OutletAboveInlet => 1,
+            EmissionFault::SludgeAboveCod => 2,
+            EmissionFault::Factor(lower) => return lower.into(),
+        };
+        Refusal {
+            layer: Layer::Record,
+            number: 11,
+            place,
         }
     }
 }

@@ -1,8 +1,6 @@
-ghost use Rattle.std.specs.Prelude.{◌≡◌, ℕ, ◌*◌, ◌≤◌};
-ghost use Rattle.refusal.specs.Said.{said};
+ghost use Rattle.std.specs.Prelude.{◌≡◌, ◌≤◌};
 ghost use Rattle.steam.specs.Line.{enthalpy_over, enthalpy_under};
-ghost use Rattle.emission.specs.Emission.{cod_of, cod_checked, methane_checked};
-ghost use Rattle.emission.specs.Faults.{refusal_of};
+ghost use Rattle.emission.specs.Emission.{cod_of};
 ghost use Rattle.emission.specs.Parts.{fuel_parts, carbonate_parts, bought_parts, energy_parts, water_parts, steam_parts, wastewater_parts};
 
 use crate::products::{product, wide_product};
@@ -15,6 +13,7 @@ const BASE_HUNDREDTHS: u32 = 2000;
 // Enthalpy of that water, in hundredths of kJ/kg.
 const BASE_ENTHALPY: u32 = 8374;
 
+// A function for each formula of the standard, over the numbers that its definition multiplies, so that each meets its own.
 pub(crate) fn fuel(quantity: u32, rate: u32, oxidised: u16) -> u128
     ensures { result ≡ fuel_parts quantity rate oxidised }
 {
@@ -52,16 +51,12 @@ pub(crate) fn saturated_steam(steam: SteamQuantities, rate: u32) -> u128
     requires high { steam.kilopascals ≤ 22000 }
     ensures { result ≡ steam_parts steam.kilograms (enthalpy_over steam.kilopascals) (enthalpy_under steam.kilopascals) rate }
 {
-    match saturated(steam.kilopascals) {
-        Some(enthalpy) => {
-            let above = enthalpy.over.saturating_sub(BASE_ENTHALPY * enthalpy.under);
-            wide_product(
-                product(steam.kilograms, above),
-                product(rate, 30_000 / enthalpy.under),
-            )
-        }
-        None => unreachable(),
-    }
+    let enthalpy = saturated(steam.kilopascals).unwrap();
+    let above = enthalpy.over.saturating_sub(BASE_ENTHALPY * enthalpy.under);
+    wide_product(
+        product(steam.kilograms, above),
+        product(rate, 30_000 / enthalpy.under),
+    )
 }
 
 // Grams of COD removed, less the sludge.

@@ -43,13 +43,11 @@ fn factor_for<S: Source>(lawful: Record, source: &mut S) -> Result<Option<Factor
     ensures same { S.Source.table source.new ≡ S.Source.table source.old }
     ensures limits { IfOk result (λ f. Limited (asked (raw_of lawful)) f) }
 {
-    match question(lawful) {
-        Some(question) => match source.ask(question) {
-            Some(factor) => Ok(Some(factor)),
-            None => Err(FactorFault::FactorMissing),
-        },
-        None => Ok(None),
-    }
+    let Some(question) = question(lawful) else {
+        return Ok(None);
+    };
+    let factor = source.ask(question).ok_or(FactorFault::FactorMissing)?;
+    Ok(Some(factor))
 }
 
 // Grams of an emission that no lawful record exceeds.
@@ -57,10 +55,7 @@ fn grams(parts: u128) -> u64
     requires { parts ≤ 800000000000 * 30000000000 }
     ensures { result ≡ grams_of parts }
 {
-    match nearest_whole(parts, PARTS_PER_GRAM) {
-        Some(grams) => grams as u64,
-        None => unreachable(),
-    }
+    nearest_whole(parts, PARTS_PER_GRAM).unwrap() as u64
 }
 
 // What is kept of a record with the factor that the source holds for it.

@@ -1,8 +1,8 @@
-ghost use Rattle.std.specs.Prelude.{◌≡◌, ◌≤◌};
+ghost use Rattle.std.specs.Prelude.{◌≡◌};
 ghost use Rattle.refusal.specs.Said.{said};
 ghost use Rattle.kind.specs.Kinds.{numbers_of};
 ghost use Rattle.factor.specs.Faults as factors;
-ghost use Rattle.emission.specs.Emission.{amount_parts, emission_parts, cod_checked, methane_checked, rate_of, share_of, purity_of, loss_of, InRange};
+ghost use Rattle.emission.specs.Emission.{emission_parts, cod_checked, methane_checked, InRange};
 ghost use Rattle.emission.specs.Faults.{refusal_of};
 
 use crate::fault::EmissionFault;
@@ -17,36 +17,10 @@ use reading::Quantities;
 // A missing purity is 98 %.
 const PURITY: u16 = 980;
 
-fn rate_of(factor: Option<Factor>) -> u32
-    ensures { result ≡ rate_of factor }
-{
-    match factor {
-        Some(factor) => factor.rate,
-        None => 0,
-    }
-}
+// A missing factor counts as none, in the definition too, so that no case is left that cannot be.
+const NO_FACTOR: Factor = Factor { rate: 0, share: 0 };
 
-fn share_of(factor: Option<Factor>) -> u16
-    ensures { result ≡ share_of factor }
-{
-    match factor {
-        Some(factor) => factor.share,
-        None => 0,
-    }
-}
-
-fn amount(kind: Kind, quantity: u32, share: Option<u16>, factor: Option<Factor>) -> u128
-    ensures { result ≡ amount_parts (numbers_of kind).0 quantity share factor }
-{
-    match kind {
-        Kind::FuelBurnt(_) => fuel(quantity, rate_of(factor), share_of(factor)),
-        Kind::CarbonateUsed(_) => carbonate(quantity, rate_of(factor), share.unwrap_or(PURITY)),
-        Kind::BoughtCo2 => bought(quantity, share.unwrap_or(0)),
-        _ => energy(quantity, rate_of(factor)),
-    }
-}
-
-// The exact emission, in parts of a gram.
+// The exact emission, in parts of a gram, of four fields of an entry, which is made once its grams are known.
 pub(crate) fn emission(
     kind: Kind,
     quantities: Quantities,
@@ -56,11 +30,19 @@ pub(crate) fn emission(
     requires { InRange quantities }
     ensures { result ≡ emission_parts (numbers_of kind).0 quantities share factor }
 {
-    match quantities {
-        Quantities::Amount(quantity) => amount(kind, quantity, share, factor),
-        Quantities::Water(water) => hot_water(water, rate_of(factor)),
-        Quantities::Steam(steam) => saturated_steam(steam, rate_of(factor)),
-        Quantities::Wastewater(water) => wastewater(water, rate_of(factor), share_of(factor)),
+    let factor = factor.unwrap_or(NO_FACTOR);
+    match (quantities, kind) {
+        (Quantities::Amount(quantity), Kind::FuelBurnt(_)) => {
+            fuel(quantity, factor.rate, factor.share)
+        }
+        (Quantities::Amount(quantity), Kind::CarbonateUsed(_)) => {
+            carbonate(quantity, factor.rate, share.unwrap_or(PURITY))
+        }
+        (Quantities::Amount(quantity), Kind::BoughtCo2) => bought(quantity, share.unwrap_or(0)),
+        (Quantities::Amount(quantity), _) => energy(quantity, factor.rate),
+        (Quantities::Water(water), _) => hot_water(water, factor.rate),
+        (Quantities::Steam(steam), _) => saturated_steam(steam, factor.rate),
+        (Quantities::Wastewater(water), _) => wastewater(water, factor.rate, factor.share),
     }
 }
 
@@ -87,7 +69,10 @@ pub(crate) fn check_methane(
     ensures { said (λ _. tt) factors.refusal_of result ≡ methane_checked quantities factor }
 {
     if let Quantities::Wastewater(water) = quantities {
-        let formed = wide_product(cod_removed(water), u64::from(rate_of(factor)));
+        let formed = wide_product(
+            cod_removed(water),
+            u64::from(factor.unwrap_or(NO_FACTOR).rate),
+        );
         if u128::from(product(water.recovered, 100_000_000)) > formed {
             return Err(FactorFault::MethaneExceeded);
         }

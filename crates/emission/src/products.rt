@@ -1,6 +1,6 @@
 ghost use Rattle.std.specs.Prelude.{◌≡◌, ◌*◌};
 
-// Products in a type that holds every one of them.
+// Products in a type that holds every one of them; two functions, since a trait over both widths would be longer than they are.
 pub(crate) fn product(a: u32, b: u32) -> u64
     ensures { result ≡ a * b }
 {

@@ -1,3 +1,1 @@
-pub mod Limited
-pub mod TableLimits
 pub mod FirstRow

@@ -5,3 +5,4 @@ pub mod Faults
 pub mod Printed
 pub mod PlantRows
 pub mod Laws
+pub mod Limited

@@ -1,5 +1,6 @@
 -- What the plant's own rows answer.
-use Rattle.std.specs.Prelude.{Bool, cond, ◌&&◌, List, [], ◌∷◌, Some, None, Option, ◌==◌, nat_le}
+use Rattle.std.specs.Prelude.{Bool, ◌&&◌, List, Option, option_map, ◌==◌, nat_le}
+use Rattle.std.specs.List.{find}
 use Rattle.factor.specs.declared.plant.PlantRow.{PlantRow}
 use Rattle.factor.specs.declared.question.Factor.{Factor}
 use Rattle.factor.specs.Questions.{Asked}
@@ -22,5 +23,4 @@ row_fits q row = row_names q row && (row_holds q row && keeps row.class row.rate
 
 -- the first row that fits answers
 abbrev pub first_fit : Asked → List PlantRow → Option Factor
-first_fit q [] = None
-first_fit q (row ∷ rows) = cond (row_fits q row) (Some (row_factor row)) (first_fit q rows)
+first_fit q rows = option_map row_factor (find (row_fits q) rows)

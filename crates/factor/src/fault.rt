@@ -1,7 +1,9 @@
 ghost use Rattle.std.specs.Prelude.{◌≡◌};
 ghost use Rattle.factor.specs.Faults.{refusal_of};
+ghost use Rattle.factor.specs.declared.fault.FactorFault.TheVariants.{ListFull};
 
 use refusal::{Layer, Refusal};
+use rows::Full;
 
 // Why a factor cannot be had, taken in or used.
 #[derive(Clone, Copy, PartialEq, Eq, Debug)]
@@ -11,11 +13,19 @@ pub enum FactorFault {
     ListFull,
 }
 
-impl FactorFault {
-    pub fn refusal(self) -> Refusal
-        ensures { result ≡ refusal_of self }
-    {
-        let number = match self {
+impl From<Full> for FactorFault {
+    ghost from_gives = { λ _ r. r ≡ ListFull };
+
+    fn from(_full: Full) -> FactorFault {
+        FactorFault::ListFull
+    }
+}
+
+impl From<FactorFault> for Refusal {
+    ghost from_gives = { λ e r. r ≡ refusal_of e };
+
+    fn from(fault: FactorFault) -> Refusal {
+        let number = match fault {
             FactorFault::FactorMissing => 12,
             FactorFault::MethaneExceeded => 13,
             FactorFault::ListFull => 16,

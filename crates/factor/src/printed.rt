@@ -2,6 +2,8 @@ ghost use Rattle.std.specs.Prelude.{◌≡◌};
 ghost use Rattle.kind.specs.Kinds.{fuel_item};
 ghost use Rattle.factor.specs.Classes.{class_number, class_item};
 ghost use Rattle.factor.specs.Printed.{printed_at, fuel_factor, printed_default, printed_answer};
+ghost use Rattle.factor.specs.Limited.{printed_limited};
+ghost use Rattle.factor.specs.Questions.{asked_of};
 
 use crate::question::{Class, Factor, Question};
 use crate::source::Source;
@@ -43,7 +45,8 @@ const HEAT: Factor = Factor {
 fn row_of(fuel: Fuel) -> PrintedFuel
     ensures { result ≡ printed_at (fuel_item fuel) }
 {
-    FUELS[fuel.row() as usize - 1]
+    // A fuel is its row, counted from 1.
+    FUELS[usize::from(u8::from(fuel)) - 1]
 }
 
 fn fuel_factor(fuel: Fuel) -> Factor
@@ -72,6 +75,8 @@ pub struct Printed;
 
 impl Source for Printed {
     ghost table = { λ _ q. printed_answer q };
+
+    ghost limits = { λ _ q. printed_limited (asked_of q) };
 
     fn ask(&mut self, question: Question) -> Option<Factor> {
         match question.tier {

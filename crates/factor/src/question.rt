@@ -15,6 +15,7 @@ pub enum Class {
     Heat,
 }
 
+// A class has two numbers, so neither is a conversion of it.
 impl Class {
     pub fn number(self) -> u8
         ensures { result ≡ class_number self }
@@ -33,8 +34,8 @@ impl Class {
         ensures { result ≡ class_item self }
     {
         match self {
-            Class::Combustion(fuel) => fuel.row(),
-            Class::Decomposition(carbonate) => carbonate.item(),
+            Class::Combustion(fuel) => fuel.into(),
+            Class::Decomposition(carbonate) => carbonate.into(),
             Class::Methane | Class::Power | Class::Heat => 0,
         }
     }

@@ -1,7 +1,10 @@
-ghost use Rattle.std.specs.Prelude.{◌≡◌, IfSome, if◌then◌else◌, Some, None, Option, nat_eq};
+ghost use Rattle.std.specs.Prelude.{◌≡◌, if◌then◌else◌, None, Option, nat_eq};
+ghost use Rattle.kind.specs.Tiers.{letter_of};
 ghost use Rattle.factor.specs.declared.question.Factor.{Factor};
-ghost use Rattle.factor.specs.Limits.{Within};
+ghost use Rattle.factor.specs.declared.question.Question.{Question};
+ghost use Rattle.factor.specs.Classes.{class_number};
 ghost use Rattle.factor.specs.Questions.{Asked, asked_of};
+ghost use Rattle.factor.specs.Limited.{Limited, none_limited, either_limited};
 
 use crate::question::{Factor, Question};
 use kind::Tier;
@@ -12,8 +15,10 @@ pub trait Source {
 
     fn ask(&mut self, question: Question) -> Option<Factor>
         ensures answer { result ≡ table self.old (asked_of question) }
-        ensures same { table self.new ≡ table self.old }
-        ensures limits { IfSome result (λ f. Within (asked_of question).class f) };
+        ensures same { table self.new ≡ table self.old };
+
+    // What the table holds for a question is within the limits of its class.
+    ghost limits: { (s : Self) (q : Question) → Limited (class_number q.class) (table s (asked_of q)) };
 }
 
 // A source that holds nothing.
@@ -22,6 +27,8 @@ pub struct Nothing;
 
 impl Source for Nothing {
     ghost table = { λ _ _. None };
+
+    ghost limits = { λ _ q. none_limited (class_number q.class) };
 
     fn ask(&mut self, question: Question) -> Option<Factor> {
         None
@@ -37,7 +44,8 @@ pub struct Pair<M, D> {
 
 impl<M, D> Pair<M, D> {
     pub fn new(measured: M, default: D) -> Pair<M, D>
-        ensures { (result.measured ≡ measured) × (result.default ≡ default) }
+        ensures measured { result.measured ≡ measured }
+        ensures default { result.default ≡ default }
     {
         Pair { measured, default }
     }
@@ -45,6 +53,8 @@ impl<M, D> Pair<M, D> {
 
 impl<M: Source, D: Source> Source for Pair<M, D> {
     ghost table = { λ s a. (if nat_eq a.tier 77 then M.Source.table s.measured a else D.Source.table s.default a) };
+
+    ghost limits = { λ s q. either_limited (class_number q.class) (nat_eq (letter_of q.tier) 77) _ _ (M.Source.limits s.measured q) (D.Source.limits s.default q) };
 
     fn ask(&mut self, question: Question) -> Option<Factor> {
         match question.tier {

@@ -1,9 +1,13 @@
 -- Laws of the field at the front. Assumes nothing.
-use Rattle.std.proofs.Common.{◌≡◌, ℕ, ◌+◌, ◌-◌, ◌<◌, ◌≤◌, Bool, true, false, cond, List, [], ◌∷◌, length, get_or, take, drop, refl, arith, length-drop}
+use Rattle.std.proofs.Common.{◌≡◌, ℕ, ◌+◌, ◌<◌, ◌≤◌, Bool, true, false, cond, leb, List, [], ◌∷◌, length, get_or, take, drop, Some, sym, refl, arith, length-drop}
 use Rattle.std.proofs.lemmas.Bool.{le-leb, lt-ltb, leb-true, ltb-true}
 use Rattle.std.proofs.lemmas.List.{length-take-le}
+use Rattle.std.proofs.lemmas.Option.{cond_some}
 use Rattle.refusal.specs.declared.Refusal.{Refusal}
+use Rattle.refusal.specs.declared.Layer.TheVariants.{Frame}
+use Rattle.refusal.specs.Said.{refusal}
 use Rattle.frame.specs.Format.{known, length_fits, word}
+use Rattle.frame.specs.Tags.{tag_in}
 use Rattle.frame.specs.Reading.{Front, told, refuses, front}
 
 pub one_byte : (xs : List ℕ) → length xs ≡ 1 → get_or xs 0 0 ∷ [] ≡ xs
@@ -11,12 +15,22 @@ one_byte [] h = absurd (omega arith)
 one_byte (x ∷ []) h = refl
 one_byte (x ∷ y ∷ xs) h = absurd (omega arith)
 
-pub front_told : (at above : ℕ) (bs : List ℕ) → 3 ≤ length bs → 1 ≤ get_or bs 0 0 → get_or bs 0 0 ≤ 7 → above < get_or bs 0 0
-    → length_fits (get_or bs 0 0) (word bs 1) ≡ true → word bs 1 ≤ length bs - 3
-    → front at above bs ≡ told (get_or bs 0 0) (take (word bs 1) (drop 3 bs)) (drop (word bs 1) (drop 3 bs))
-front_told at above bs h1 h2 h3 h4 h5 h6 =
-    let g : word bs 1 ≤ length (drop 3 bs) = simp length-drop (omega arith) in
-    simp (le-leb 3 (length bs) h1, le-leb 1 (get_or bs 0 0) h2, le-leb (get_or bs 0 0) 7 h3, lt-ltb above (get_or bs 0 0) h4, h5, le-leb (word bs 1) (length (drop 3 bs)) g)
+-- a header that is complete, with a known tag above the one before
+pub record Headed (above : ℕ) (bs : List ℕ) (tag n : ℕ) : Type 0 where
+  pub head : 3 ≤ length bs
+  pub tagged : Some tag ≡ tag_in (get_or bs 0 0)
+  pub up : above < tag
+  pub sized : n ≡ word bs 1
+
+pub front_headed : (at above : ℕ) (bs : List ℕ) (tag n : ℕ) → Headed above bs tag n
+    → front at above bs
+    ≡ cond (length_fits tag n)
+    (cond (leb n (length (drop 3 bs))) (told tag (take n (drop 3 bs)) (drop n (drop 3 bs))) (refuses (refusal Frame 1 at)))
+    (refuses (refusal Frame 4 at))
+front_headed at above bs tag n h =
+    let t = cond_some (known (get_or bs 0 0)) (get_or bs 0 0) tag (sym h.tagged) in
+    let k : known tag ≡ true = rw t.1 at t.0 in
+    rw (h.sized) (simp (le-leb 3 (length bs) h.head, t.1, k, lt-ltb above tag h.up))
 
 inside : (b : Bool) (x : Front) (r : Refusal) (tag : ℕ) (bytes left : List ℕ) → told tag bytes left ≡ cond b x (refuses r) → (b ≡ true) × (told tag bytes left ≡ x)
 inside true x r tag bytes left e = (refl, e)

@@ -1,15 +1,12 @@
 -- What the values of the code hold.
-use Rattle.std.specs.Prelude.{ℕ, List, [], ◌∷◌, Some, None, Ok, Err, Option, Result}
+use Rattle.std.specs.Prelude.{ℕ, List, [], ◌∷◌, Some, None, Option}
 use Rattle.std.specs.Borrow.{Bor}
-use Rattle.frame.specs.declared.fault.FrameFault.{FrameFault}
 use Rattle.frame.specs.declared.field.Field.{Field}
 use Rattle.frame.specs.declared.field.Field.TheVariants.{When, Kind, Item, Tier, Readings, Share, Name}
-use Rattle.frame.specs.declared.field.Next.{Next}
 use Rattle.frame.specs.declared.fields.Fields.{Fields}
 use Rattle.frame.specs.declared.reader.Seen.{Seen}
 use Rattle.frame.specs.Format.{Parts}
-use Rattle.frame.specs.Reading.{Front, told, refuses, Told}
-use Rattle.frame.specs.Faults.{refusal_of}
+use Rattle.frame.specs.Reading.{Told}
 
 abbrev pub tag_of : Field → ℕ
 tag_of (When b) = 1
@@ -28,10 +25,6 @@ bytes_of (Tier b) = b.now ∷ []
 bytes_of (Readings b) = b.now
 bytes_of (Share b) = b.now
 bytes_of (Name b) = b.now
-
-abbrev pub front_of : Result Next FrameFault → Front
-front_of (Ok n) = told (tag_of n.field) (bytes_of n.field) n.rest.now
-front_of (Err e) = refuses (refusal_of e)
 
 abbrev pub bytes_at : Bor (List ℕ) → List ℕ
 bytes_at r = r.now

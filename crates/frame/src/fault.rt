@@ -1,6 +1,7 @@
 ghost use Rattle.std.specs.Prelude.{◌≡◌};
 ghost use Rattle.frame.specs.Faults.{refusal_of};
 
+use crate::tag::Tag;
 use refusal::{Layer, Refusal};
 
 // What is wrong with a frame or with a buffer for one; an offset is that of the field's first byte.
@@ -10,45 +11,26 @@ pub enum FrameFault {
     TagUnknown { offset: usize },
     TagNotRising { offset: usize },
     LengthWrong { offset: usize },
-    FieldMissing { tag: u8 },
+    FieldMissing { tag: Tag },
     BufferShort { needed: usize },
 }
 
-impl FrameFault {
-    pub fn refusal(self) -> Refusal
-        ensures { result ≡ refusal_of self }
-    {
-        match self {
-            FrameFault::EndsInside { offset } => Refusal {
-                layer: Layer::Frame,
-                number: 1,
-                place: offset,
-            },
-            FrameFault::TagUnknown { offset } => Refusal {
-                layer: Layer::Frame,
-                number: 2,
-                place: offset,
-            },
-            FrameFault::TagNotRising { offset } => Refusal {
-                layer: Layer::Frame,
-                number: 3,
-                place: offset,
-            },
-            FrameFault::LengthWrong { offset } => Refusal {
-                layer: Layer::Frame,
-                number: 4,
-                place: offset,
-            },
-            FrameFault::FieldMissing { tag } => Refusal {
-                layer: Layer::Frame,
-                number: 5,
-                place: tag as usize,
-            },
-            FrameFault::BufferShort { needed } => Refusal {
-                layer: Layer::Book,
-                number: 20,
-                place: needed,
-            },
+impl From<FrameFault> for Refusal {
+    ghost from_gives = { λ e r. r ≡ refusal_of e };
+
+    fn from(fault: FrameFault) -> Refusal {
+        let (layer, number, place) = match fault {
+            FrameFault::EndsInside { offset } => (Layer::Frame, 1, offset),
+            FrameFault::TagUnknown { offset } => (Layer::Frame, 2, offset),
+            FrameFault::TagNotRising { offset } => (Layer::Frame, 3, offset),
+            FrameFault::LengthWrong { offset } => (Layer::Frame, 4, offset),
+            FrameFault::FieldMissing { tag } => (Layer::Frame, 5, tag as usize),
+            FrameFault::BufferShort { needed } => (Layer::Book, 20, needed),
+        };
+        Refusal {
+            layer,
+            number,
+            place,
         }
     }
 }

@@ -1,10 +1,11 @@
-ghost use Rattle.std.specs.Prelude.{◌≡◌, true, length};
-ghost use Rattle.frame.specs.Faults.{refusal_of};
-ghost use Rattle.frame.specs.Format.{known, length_fits};
-ghost use Rattle.frame.specs.Reading.{front};
-ghost use Rattle.frame.specs.Views.{tag_of, bytes_of, front_of};
+ghost use Rattle.std.specs.Prelude.{◌≡◌, ◌≤◌, true, length};
+ghost use Rattle.frame.specs.Format.{length_fits};
+ghost use Rattle.frame.specs.Tags.{number_of};
+ghost use Rattle.frame.specs.Views.{tag_of, bytes_of};
 
 use crate::fault::FrameFault;
+use crate::tag::Tag;
+use std::slice;
 
 // A field of a frame: its tag and the part of the frame that holds its bytes.
 #[derive(Clone, Copy)]
@@ -18,110 +19,132 @@ pub enum Field<'f> {
     Name(&'f [u8]),
 }
 
-// A field and what follows it in the frame.
-#[derive(Clone, Copy)]
-pub struct Next<'f> {
-    pub field: Field<'f>,
-    pub rest: &'f [u8],
-}
-
 impl<'f> Field<'f> {
-    pub fn tag(self) -> u8
-        ensures { result ≡ tag_of self.entry }
+    // The field of a tag that allows so many bytes.
+    fn new(tag: Tag, bytes: &'f [u8]) -> Field<'f>
+        requires { length_fits (number_of tag) (length bytes.now) ≡ true }
+        ensures tag { tag_of result ≡ number_of tag }
+        ensures bytes { bytes_of result ≡ bytes.now }
     {
-        match self {
-            Field::When(_) => 1,
-            Field::Kind(_) => 2,
-            Field::Item(_) => 3,
-            Field::Tier(_) => 4,
-            Field::Readings(_) => 5,
-            Field::Share(_) => 6,
-            Field::Name(_) => 7,
+        match tag {
+            Tag::When => Field::When(bytes.as_array().unwrap()),
+            Tag::Kind => Field::Kind(&bytes[0]),
+            Tag::Item => Field::Item(&bytes[0]),
+            Tag::Tier => Field::Tier(&bytes[0]),
+            Tag::Readings => Field::Readings(bytes),
+            Tag::Share => Field::Share(bytes.as_array().unwrap()),
+            Tag::Name => Field::Name(bytes),
         }
     }
 
-    // How many bytes the field holds.
-    pub fn size(self) -> usize
-        ensures { result ≡ length (bytes_of self.entry) }
+    pub fn tag(self) -> Tag
+        ensures { number_of result ≡ tag_of self.entry }
     {
         match self {
-            Field::When(b) => b.as_slice().len(),
-            Field::Kind(_) | Field::Item(_) | Field::Tier(_) => 1,
-            Field::Readings(b) => b.len(),
-            Field::Share(b) => b.as_slice().len(),
-            Field::Name(b) => b.len(),
+            Field::When(_) => Tag::When,
+            Field::Kind(_) => Tag::Kind,
+            Field::Item(_) => Tag::Item,
+            Field::Tier(_) => Tag::Tier,
+            Field::Readings(_) => Tag::Readings,
+            Field::Share(_) => Tag::Share,
+            Field::Name(_) => Tag::Name,
+        }
+    }
+
+    pub fn bytes(self) -> &'f [u8]
+        ensures { result.now ≡ bytes_of self.entry }
+    {
+        match self {
+            Field::When(bytes) => bytes,
+            Field::Kind(byte) | Field::Item(byte) | Field::Tier(byte) => slice::from_ref(byte),
+            Field::Readings(bytes) | Field::Name(bytes) => bytes,
+            Field::Share(bytes) => bytes,
         }
     }
 }
 
-// Whether a field of this tag may hold n bytes.
-pub fn length_fits(tag: u8, n: usize) -> bool
-    ensures { result ≡ length_fits tag n }
-{
-    match tag {
-        1 => n == 4,
-        2 | 3 | 4 => n == 1,
-        5 => n == 4 || n == 8 || n == 12 || n == 16 || n == 20,
-        6 => n == 2,
-        _ => 1 <= n && n <= 16,
+// The fields of a frame from an offset on, up to its end or the first fault.
+#[derive(Drop)]
+pub struct Run<'f> {
+    frame: &'f [u8],
+    offset: usize,
+
+    // The tag of the field before the offset.
+    above: Option<Tag>,
+    ghost within: { offset ≤ length frame.now },
+}
+
+impl<'f> Run<'f> {
+    ghost use Rattle.frame.specs.Runs.{left, Tells};
+
+    // The fields of a whole frame.
+    pub fn new(frame: &'f [u8]) -> Run<'f>
+        ensures frame { result.frame.now ≡ frame.now }
+        ensures offset { result.offset ≡ 0 }
+        ensures above { result.above ≡ None }
+    {
+        Run {
+            frame,
+            offset: 0,
+            above: None,
+        }
+    }
+
+    // What is left of the frame, from the offset on.
+    fn left(&self) -> &'f [u8]
+        ensures { result.now ≡ left self.now }
+    {
+        &self.frame[self.offset..]
+    }
+
+    // The field at the offset; the run goes on after it.
+    fn next_field(&mut self) -> Result<Field<'f>, FrameFault>
+        ensures { Tells self.old result self.new }
+    {
+        let offset = self.offset;
+        let [tag, high, low, rest @ ..] = self.left() else {
+            return Err(FrameFault::EndsInside { offset });
+        };
+        // A fault after each test, in the order of the format: `let .. else` shows it where `ok_or` would not.
+        let Ok(tag) = Tag::try_from(*tag) else {
+            return Err(FrameFault::TagUnknown { offset });
+        };
+        // None, before the first field, is below every tag.
+        if Some(tag) <= self.above {
+            return Err(FrameFault::TagNotRising { offset });
+        }
+        let length = usize::from(u16::from_be_bytes([*high, *low]));
+        if !tag.allows(length) {
+            return Err(FrameFault::LengthWrong { offset });
+        }
+        let Some(bytes) = rest.get(..length) else {
+            return Err(FrameFault::EndsInside { offset });
+        };
+        self.offset += 3 + length;
+        self.above = Some(tag);
+        Ok(Field::new(tag, bytes))
     }
 }
 
-// The field of a tag whose length was found right.
-fn told<'f>(tag: u8, bytes: &'f [u8]) -> Field<'f>
-    requires { (known tag ≡ true) × (length_fits tag (length bytes.now) ≡ true) }
-    ensures tag { tag_of result ≡ tag }
-    ensures bytes { bytes_of result ≡ bytes.now }
-{
-    match tag {
-        1 => match bytes.first_chunk::<4>() {
-            Some(when) => Field::When(when),
-            None => unreachable(),
-        },
-        2 => match bytes {
-            [kind] => Field::Kind(kind),
-            _ => unreachable(),
-        },
-        3 => match bytes {
-            [item] => Field::Item(item),
-            _ => unreachable(),
-        },
-        4 => match bytes {
-            [tier] => Field::Tier(tier),
-            _ => unreachable(),
-        },
-        5 => Field::Readings(bytes),
-        6 => match bytes.first_chunk::<2>() {
-            Some(share) => Field::Share(share),
-            None => unreachable(),
-        },
-        _ => Field::Name(bytes),
-    }
-}
+impl<'f> Iterator for Run<'f> {
+    type Item = Result<Field<'f>, FrameFault>;
 
-// The field at the front of the bytes left, which begin at an offset of the frame.
-pub fn next_field<'f>(left: &'f [u8], offset: usize, above: u8) -> Result<Next<'f>, FrameFault>
-    ensures { front_of result ≡ front offset above left.now }
-{
-    let [tag, high, low, rest @ ..] = left else {
-        return Err(FrameFault::EndsInside { offset });
-    };
-    let tag = *tag;
-    let n = *high as usize * 256 + *low as usize;
-    if tag < 1 || tag > 7 {
-        return Err(FrameFault::TagUnknown { offset });
+    ghost use Rattle.std.specs.Iterator.{at_most};
+    ghost use Rattle.frame.specs.Runs.{left, Gives};
+
+    ghost next_gives = { Gives };
+
+    ghost remaining = { λ run. at_most (length (left run)) };
+
+    fn next(&mut self) -> Option<Result<Field<'f>, FrameFault>> {
+        if self.left().is_empty() {
+            return None;
+        }
+        let told = self.next_field();
+        if told.is_err() {
+            // A fault ends the run.
+            self.offset = self.frame.len();
+        }
+        Some(told)
     }
-    if tag <= above {
-        return Err(FrameFault::TagNotRising { offset });
-    }
-    if !length_fits(tag, n) {
-        return Err(FrameFault::LengthWrong { offset });
-    }
-    if rest.len() < n {
-        return Err(FrameFault::EndsInside { offset });
-    }
-    Ok(Next {
-        field: told(tag, &rest[0..n]),
-        rest: &rest[n..],
-    })
 }

@@ -6,9 +6,11 @@ mod fault;
 mod field;
 mod fields;
 mod reader;
+mod tag;
 mod writer;
 
 pub use fault::FrameFault;
 pub use fields::Fields;
 pub use reader::{name, read};
+pub use tag::{NoSuchTag, Tag};
 pub use writer::{check_name, write};

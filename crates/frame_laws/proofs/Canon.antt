@@ -1,7 +1,7 @@
 -- A rising run is the fields told, in the order of their tags. Assumes nothing.
-use Rattle.std.proofs.Common.{◌≡◌, ℕ, suc, ◌<◌, true, cond, eqb, leb, List, [], ◌∷◌, ◌++◌, length, Some, None, Ok, Option, sym, refl, ap, ◌∙◌, subst, inl, inr, arith}
+use Rattle.std.proofs.Common.{◌≡◌, ℕ, zero, suc, ◌<◌, true, cond, eqb, leb, List, [], ◌∷◌, ◌++◌, length, Some, None, Ok, Option, sym, refl, ap, ◌∙◌, subst, arith}
 use Rattle.std.proofs.lemmas.List.{append_assoc, append-nil}
-use Rattle.std.proofs.lemmas.Bool.{ne_eqb, cases_eq, and_parts, leb-true, eqb-true, cond_both}
+use Rattle.std.proofs.lemmas.Bool.{ne_eqb, and_parts, leb-true, eqb-true, cond_both}
 use Rattle.frame.specs.Format.{known, length_fits, field, optional, optional_fits, named, Parts, written, sound}
 use Rattle.frame.specs.Reading.{Told, put, whole, first, bytes_or, nothing}
 use Rattle.frame.proofs.Front.{one_byte}
@@ -36,67 +36,30 @@ upto_put above tag bs t h u = record {
   u7 = λ l. upto_one tag 7 bs t.f7 l (u.u7 (omega arith));
 }
 
-wr_1 : (above : ℕ) (bs : List ℕ) (t : Told) → above < 1 → Upto above t → wr (put 1 bs t) ≡ wr t ++ field 1 bs
-unfolding wr
-wr_1 above bs t h u =
-    simp (u.u1 (omega arith), u.u2 (omega arith), u.u3 (omega arith), u.u4 (omega arith), u.u5 (omega arith), u.u6 (omega arith), u.u7 (omega arith), append_assoc) (simp (append-nil bs))
-
-wr_2 : (above : ℕ) (bs : List ℕ) (t : Told) → above < 2 → Upto above t → wr (put 2 bs t) ≡ wr t ++ field 2 bs
-unfolding wr
-wr_2 above bs t h u =
-    simp (u.u2 (omega arith), u.u3 (omega arith), u.u4 (omega arith), u.u5 (omega arith), u.u6 (omega arith), u.u7 (omega arith), append_assoc) (simp (append-nil bs))
-
-wr_3 : (above : ℕ) (bs : List ℕ) (t : Told) → above < 3 → Upto above t → wr (put 3 bs t) ≡ wr t ++ field 3 bs
-unfolding wr
-wr_3 above bs t h u = simp (u.u3 (omega arith), u.u4 (omega arith), u.u5 (omega arith), u.u6 (omega arith), u.u7 (omega arith), append_assoc) (simp (append-nil bs))
-
-wr_4 : (above : ℕ) (bs : List ℕ) (t : Told) → above < 4 → Upto above t → wr (put 4 bs t) ≡ wr t ++ field 4 bs
-unfolding wr
-wr_4 above bs t h u = simp (u.u4 (omega arith), u.u5 (omega arith), u.u6 (omega arith), u.u7 (omega arith), append_assoc) (simp (append-nil bs))
-
-wr_5 : (above : ℕ) (bs : List ℕ) (t : Told) → above < 5 → Upto above t → wr (put 5 bs t) ≡ wr t ++ field 5 bs
-unfolding wr
-wr_5 above bs t h u = simp (u.u5 (omega arith), u.u6 (omega arith), u.u7 (omega arith), append_assoc) (simp (append-nil bs))
-
-wr_6 : (above : ℕ) (bs : List ℕ) (t : Told) → above < 6 → Upto above t → wr (put 6 bs t) ≡ wr t ++ field 6 bs
-unfolding wr
-wr_6 above bs t h u = simp (u.u6 (omega arith), u.u7 (omega arith), append_assoc) (simp (append-nil bs))
-
-wr_7 : (above : ℕ) (bs : List ℕ) (t : Told) → above < 7 → Upto above t → wr (put 7 bs t) ≡ wr t ++ field 7 bs
-unfolding wr
-wr_7 above bs t h u = simp (u.u7 (omega arith), append_assoc)
+-- what holds of 1 to 7 holds of a known tag
+known_cases : (P : ℕ → Type 0) (tag : ℕ) → known tag ≡ true → P 1 → P 2 → P 3 → P 4 → P 5 → P 6 → P 7 → P tag
+known_cases P zero k p1 p2 p3 p4 p5 p6 p7 = cc
+known_cases P (suc zero) k p1 p2 p3 p4 p5 p6 p7 = p1
+known_cases P (suc (suc zero)) k p1 p2 p3 p4 p5 p6 p7 = p2
+known_cases P (suc (suc (suc zero))) k p1 p2 p3 p4 p5 p6 p7 = p3
+known_cases P (suc (suc (suc (suc zero)))) k p1 p2 p3 p4 p5 p6 p7 = p4
+known_cases P (suc (suc (suc (suc (suc zero))))) k p1 p2 p3 p4 p5 p6 p7 = p5
+known_cases P (suc (suc (suc (suc (suc (suc zero)))))) k p1 p2 p3 p4 p5 p6 p7 = p6
+known_cases P (suc (suc (suc (suc (suc (suc (suc zero))))))) k p1 p2 p3 p4 p5 p6 p7 = p7
+known_cases P (suc (suc (suc (suc (suc (suc (suc (suc n)))))))) k p1 p2 p3 p4 p5 p6 p7 = let m = (suc (suc (suc (suc (suc (suc (suc (suc n)))))))) in absurd (omega (arith, leb-true m 7 (and_parts (leb 1 m) (leb m 7) k).1))
 
 wr_put : (above tag : ℕ) (bs : List ℕ) (t : Told) → above < tag → known tag ≡ true → Upto above t → wr (put tag bs t) ≡ wr t ++ field tag bs
+unfolding wr
 wr_put above tag bs t h kn u =
-    let b = and_parts (leb 1 tag) (leb tag 7) kn in
-    let l = leb-true 1 tag b.0 in
-    let m = leb-true tag 7 b.1 in
-    let P : ℕ → Type 0 = λ n. wr (put n bs t) ≡ wr t ++ field n bs in
-    elim (cases_eq tag 1) [
-      | inl e ↦ subst P (sym e) (wr_1 above bs t (omega arith) u)
-      | inr n1 ↦
-          elim (cases_eq tag 2) [
-            | inl e ↦ subst P (sym e) (wr_2 above bs t (omega arith) u)
-            | inr n2 ↦
-                elim (cases_eq tag 3) [
-                  | inl e ↦ subst P (sym e) (wr_3 above bs t (omega arith) u)
-                  | inr n3 ↦
-                      elim (cases_eq tag 4) [
-                        | inl e ↦ subst P (sym e) (wr_4 above bs t (omega arith) u)
-                        | inr n4 ↦
-                            elim (cases_eq tag 5) [
-                              | inl e ↦ subst P (sym e) (wr_5 above bs t (omega arith) u)
-                              | inr n5 ↦
-                                  elim (cases_eq tag 6) [
-                                    | inl e ↦ subst P (sym e) (wr_6 above bs t (omega arith) u)
-                                    | inr n6 ↦
-                                        let e : tag ≡ 7 = omega arith in subst P (sym e) (wr_7 above bs t (omega arith) u)
-                                  ]
-                            ]
-                      ]
-                ]
-          ]
-    ]
+    known_cases (λ n. above < n → wr (put n bs t) ≡ wr t ++ field n bs) tag kn
+    (λ l. simp (u.u1 l, u.u2 (omega arith), u.u3 (omega arith), u.u4 (omega arith), u.u5 (omega arith), u.u6 (omega arith), u.u7 (omega arith), append_assoc) (simp (append-nil bs)))
+    (λ l. simp (u.u2 l, u.u3 (omega arith), u.u4 (omega arith), u.u5 (omega arith), u.u6 (omega arith), u.u7 (omega arith), append_assoc) (simp (append-nil bs)))
+    (λ l. simp (u.u3 l, u.u4 (omega arith), u.u5 (omega arith), u.u6 (omega arith), u.u7 (omega arith), append_assoc) (simp (append-nil bs)))
+    (λ l. simp (u.u4 l, u.u5 (omega arith), u.u6 (omega arith), u.u7 (omega arith), append_assoc) (simp (append-nil bs)))
+    (λ l. simp (u.u5 l, u.u6 (omega arith), u.u7 (omega arith), append_assoc) (simp (append-nil bs)))
+    (λ l. simp (u.u6 l, u.u7 (omega arith), append_assoc) (simp (append-nil bs)))
+    (λ l. simp (u.u7 l, append_assoc))
+    h
 
 -- a rising run after the fields told so far
 wr_tell : (fs : List Field) (above : ℕ) (t : Told) → Rising above fs → Upto above t → wr (tell t fs) ≡ wr t ++ laid fs

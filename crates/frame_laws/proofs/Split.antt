@@ -1,14 +1,14 @@
 -- What reading makes of any bytes: a rising run, and then the end or a fault. Assumes nothing.
 use Rattle.std.proofs.Common.{◌≡◌, ℕ, zero, suc, ◌+◌, ◌*◌, ◌/◌, ◌%◌, ◌<◌, ◌≤◌, Bool, true, false, eqb, ltb, leb, ◌⊎◌, List, [], ◌∷◌, ◌++◌, length, get_or, take, drop, Err, Result, sym, refl, ap, ◌∙◌, subst, inl, inr, add-zero, arith, length-drop}
 use Rattle.std.proofs.lemmas.List.{take_at, drop_at, length-append, append_assoc, length-take-le, take-append-drop, nil_from_length}
-use Rattle.std.proofs.lemmas.Bool.{and_parts, leb-true, ltb-true, cases_Bool, eqb-true, leb-false, ltb-false, le-leb, lt-ltb, lt-leb, le-ltb}
+use Rattle.std.proofs.lemmas.Bool.{leb-true, ltb-true, cases_Bool, eqb-true, leb-false, ltb-false, le-leb, lt-ltb, lt-leb, le-ltb}
 use Rattle.std.proofs.ByRecursion.{All-drop}
 use Rattle.refusal.specs.declared.Refusal.{Refusal}
 use Rattle.refusal.specs.declared.Layer.TheVariants.{Frame}
 use Rattle.refusal.specs.Said.{refusal}
 use Rattle.frame.specs.Format.{known, length_fits, word, field, Parts}
 use Rattle.frame.specs.Reading.{Front, told, refuses, front, Told, put, whole, reads}
-use Rattle.frame.proofs.Front.{front_told, Stands, front_stands, front_length}
+use Rattle.frame.proofs.Front.{Headed, front_headed, Stands, front_stands, front_length}
 use Rattle.frame.proofs.Run.{reads_end, reads_told}
 use Rattle.frame_laws.specs.Runs.{Bytes, Field, Rising, laid, last, Fault, header_cut, tag_unknown, tag_not_rising, length_wrong, bytes_cut}
 
@@ -21,11 +21,11 @@ tell t (f ∷ fs) = tell (put f.tag f.bytes t) fs
 
 front_field : (at above tag : ℕ) (bs rest : List ℕ) → known tag ≡ true → above < tag → length_fits tag (length bs) ≡ true → told tag bs rest ≡ front at above (field tag bs ++ rest)
 front_field at above tag bs rest kn u s =
-    let n : length bs / 256 * 256 + length bs % 256 ≡ length bs = omega arith in
-    let s' : length_fits tag (length bs / 256 * 256 + length bs % 256) ≡ true = rw n s in
-    let b = and_parts (leb 1 tag) (leb tag 7) kn in
-    let e = front_told at above (field tag bs ++ rest) (omega arith) (leb-true 1 tag b.0) (leb-true tag 7 b.1) u s' (rw n (simp length-append (omega arith))) in
-    sym (e ∙ rw (n, take_at bs rest (length bs) refl, drop_at bs rest (length bs) refl))
+    let n : length bs ≡ length bs / 256 * 256 + length bs % 256 = omega arith in
+    let h : Headed above (field tag bs ++ rest) tag (length bs) = record { head = omega arith; tagged = simp kn; up = u; sized = n } in
+    let l : length bs ≤ length (bs ++ rest) = simp length-append (omega arith) in
+    sym (front_headed at above (field tag bs ++ rest) tag (length bs) h
+    ∙ rw (s, le-leb (length bs) (length (bs ++ rest)) l, take_at bs rest (length bs) refl, drop_at bs rest (length bs) refl))
 
 pub reads_run : (fs : List Field) (k at above : ℕ) (t : Told) (rest : List ℕ) → Rising above fs → length (laid fs ++ rest) ≤ k
     → (j : ℕ) × (length rest ≤ j) × (reads k at above t (laid fs ++ rest) ≡ reads j (at + length (laid fs)) (last above fs) (tell t fs) rest)

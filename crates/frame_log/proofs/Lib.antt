@@ -1,3 +1,3 @@
-pub mod First
 pub mod Along
+pub mod Counting
 pub mod Once

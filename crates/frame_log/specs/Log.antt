@@ -1,6 +1,6 @@
 -- What a log spells, and what its counts are.
 use Rattle.std.specs.Prelude.{◌≡◌, ℕ, ◌+◌, ◌<◌, ◌≤◌, Bool, true, false, cond, List, [], ◌∷◌, ◌++◌, length, drop, Ok, Err, Result, ◌==◌}
-use Rattle.std.specs.List.{AllByRecursion}
+use Rattle.std.specs.List.{AllByRecursion, FoldsTo}
 use Rattle.refusal.specs.declared.Refusal.{Refusal}
 use Rattle.calendar.specs.Calendar.{year_lawful}
 use Rattle.frame.specs.Format.{word}
@@ -62,6 +62,29 @@ pub record Counted (log : List ℕ) (year taken refused : ℕ) : Type 0 where
   pub yearless : length log < 2 → (year ≡ 0) × (taken ≡ 0) × (refused ≡ 0)
   pub unlawful : 2 ≤ length log → year_lawful (word log 0) ≡ false → (year ≡ 0) × (taken ≡ 0) × (refused ≡ 0)
   pub lawful : 2 ≤ length log → year_lawful (word log 0) ≡ true → CountedIn (word log 0) (drop 2 log) year taken refused
+
+-- the log begins with a lawful year
+pub record Names (log : List ℕ) (year : ℕ) : Type 0 where
+  pub long : 2 ≤ length log
+  pub is : year ≡ word log 0
+  pub lawful : year_lawful (word log 0) ≡ true
+
+-- the log begins with no lawful year
+pub data Yearless (log : List ℕ) : Type 0 where
+  year_cut : length log < 2 → Yearless log
+  unlawful : 2 ≤ length log → year_lawful (word log 0) ≡ false → Yearless log
+
+-- a taker was handed one frame more, and the frame is counted if it took it
+abbrev pub Handed : {T : Type 0} → (T → List ℕ → Bool → T → Type 0) → T × ℕ → List ℕ → T × ℕ → Type 0
+Handed answers p frame q = (b : Bool) × answers p.0 frame b q.0 × (q.1 ≡ p.1 + cond b 1 0)
+
+-- a taker was handed every frame that the bytes spell, in order, and took so many
+pub record Tallied {T : Type 0} (answers : T → List ℕ → Bool → T → Type 0) (bytes : List ℕ) (before : T) (taken refused : ℕ) (after : T) : Type 0 where
+  pub frames : List (List ℕ)
+  pub rest : List ℕ
+  pub spells : Spells bytes frames rest
+  pub calls : FoldsTo {P = T × ℕ} (Handed answers) (before, 0) frames (after, taken)
+  pub counted : taken + refused ≡ length frames + cut_count rest
 
 -- bytes spell one list of frames and one rest
 abbrev pub SpellsOnce : Type 0

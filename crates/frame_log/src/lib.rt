@@ -2,96 +2,41 @@
 // Its frames are counted by whether they read as lawful records of that year.
 #![tactic(auto)]
 
+mod heading;
 mod laws;
+mod walk;
 
-ghost use Rattle.std.specs.Prelude.{◌≡◌, ◌+◌, ◌<◌, ◌≤◌, ◌++◌, length, MatchOption};
-ghost use Rattle.frame_log.specs.Log.{framed, Ended, taken_by, Counted, CountedIn};
+ghost use Rattle.std.specs.Prelude.{◌≡◌, MatchOption};
+ghost use Rattle.frame_log.specs.Log.{taken_by, Counted};
 
 use calendar::Year;
+pub use heading::{frames_of, year_of};
 pub use laws::logs_stand;
 use record::read;
+pub use walk::{Counts, Next, Taker, next_frame, tally};
 
-// What a log comes to; without a lawful year all three are 0.
-#[derive(Clone, Copy, PartialEq, Eq, Debug)]
-pub struct Counts {
-    pub year: u16,
-    pub taken: usize,
-    pub refused: usize,
+// Takes the frames that read as lawful records of a year.
+#[derive(Drop)]
+struct OfYear {
+    year: Year,
 }
 
-// A frame of the log, and what follows it.
-#[derive(Clone, Copy)]
-pub struct Next<'l> {
-    pub frame: &'l [u8],
-    pub rest: &'l [u8],
+impl Taker for OfYear {
+    ghost answers = { λ t frame b u. (b ≡ taken_by t.year.number frame) × (u ≡ t) };
+
+    fn takes(&mut self, frame: &[u8]) -> bool {
+        let year = self.year;
+        read(frame).is_ok_and(|record| record.day().year() == year)
+    }
 }
 
-// The first frame, unless the log has ended or is cut off.
-pub fn next_frame<'l>(log: &'l [u8]) -> Option<Next<'l>>
-    ensures { MatchOption result (Ended log.now) (λ n. (framed n.frame.now ++ n.rest.now ≡ log.now) × (length n.frame.now < 65536)) }
+// The year of a log, and how many of its frames are taken and how many refused; none without a lawful year.
+pub fn count(log: &[u8]) -> Option<(Year, Counts)>
+    ensures { MatchOption result (Counted log.now 0 0 0) (λ c. Counted log.now c.0.number c.1.taken c.1.refused) }
 {
-    let [high, low, rest @ ..] = log else {
-        return None;
-    };
-    let n = *high as usize * 256 + *low as usize;
-    if rest.len() < n {
-        return None;
-    }
-    Some(Next {
-        frame: &rest[0..n],
-        rest: &rest[n..],
-    })
-}
-
-fn is_taken(year: Year, frame: &[u8]) -> bool
-    ensures { result ≡ taken_by year.number frame.now }
-{
-    match read(frame) {
-        Ok(record) => record.day().year().number() == year.number(),
-        Err(_) => false,
-    }
-}
-
-fn count_frames(year: Year, log: &[u8]) -> Counts
-    ensures { CountedIn year.number log.now result.year result.taken result.refused }
-{
-    let mut taken = 0;
-    let mut refused = 0;
-    let mut rest = log;
-    while let Some(next) = next_frame(rest) {
-        if is_taken(year, next.frame) {
-            taken += 1;
-        } else {
-            refused += 1;
-        }
-        rest = next.rest;
-    }
-    if !rest.is_empty() {
-        refused += 1;
-    }
-    Counts {
-        year: year.number(),
-        taken,
-        refused,
-    }
-}
-
-// The year of a log, and how many of its frames are taken and how many refused.
-pub fn count(log: &[u8]) -> Counts
-    ensures { Counted log.now result.year result.taken result.refused }
-{
-    let none = Counts {
-        year: 0,
-        taken: 0,
-        refused: 0,
-    };
-    let [high, low, rest @ ..] = log else {
-        return none;
-    };
-    match Year::new(u16::from(*high) * 256 + u16::from(*low)) {
-        Ok(year) => count_frames(year, rest),
-        Err(_) => none,
-    }
+    let year = year_of(log)?;
+    let counts = tally(frames_of(log), &mut OfYear { year });
+    Some((year, counts))
 }
 
 #[cfg(test)]
@@ -105,8 +50,9 @@ mod tests {
     ];
 
     fn is_counted(log: &[u8], year: u16, taken: usize, refused: usize) -> bool {
-        let counts = count(log);
-        counts.year == year && counts.taken == taken && counts.refused == refused
+        let none = (0, 0, 0);
+        let found = count(log).map_or(none, |(y, c)| (y.number(), c.taken, c.refused));
+        found == (year, taken, refused)
     }
 
     #[test]

@@ -185,17 +185,16 @@ module _ (b : Contents) (f : List ℕ) (t : Table) (raw : RawRecord) (read : Ok 
   pub no_entry : (x : Refusal) → Err x ≡ entry_in raw t → Step b (offer f t) (Err x) b
   no_entry x e = contents.offer_refused (rules.refused_below (then_ok (record_in f) _ raw read ∙ then_err (entry_in raw t) _ x e)) refl
 
-  -- and its entry found; n and n' are the record's year and the book's as they are compared
-  module _ (entry : Entry) (found : Ok (kept_of entry) ≡ entry_in raw t) (n y z n' : ℕ) (n-is : n ≡ y) (y-is : y ≡ z) (year : z ≡ raw.year) (own : n' ≡ b.year) where
+  -- and its entry found; y is the record's year
+  module _ (entry : Entry) (found : Ok (kept_of entry) ≡ entry_in raw t) (y : ℕ) (year : y ≡ raw.year) where
     is_offered : offered f t ≡ Ok (raw.year, kept_of entry)
     is_offered = then_ok (record_in f) _ raw read ∙ then_ok (entry_in raw t) _ (kept_of entry) found
 
-    pub of_other_year : (n ≡ n' → ⊥) → Step b (offer f t) (Err (refusal BookLayer 14 0)) b
-    of_other_year other = contents.offer_refused (rules.other_year is_offered (λ same. other (n-is ∙ y-is ∙ year ∙ same ∙ sym own))) refl
+    pub of_other_year : (y ≡ b.year → ⊥) → Step b (offer f t) (Err (refusal BookLayer 14 0)) b
+    of_other_year other = contents.offer_refused (rules.other_year is_offered (λ same. other (year ∙ same))) refl
 
-    pub of_this_year : (d m : ℕ) → d ≡ raw.day → n ≡ n' → InMonth z d m → Ours b f t entry m
-    of_this_year d m day same within =
-        let this : z ≡ b.year = sym y-is ∙ sym n-is ∙ same ∙ own in
+    pub of_this_year : (d m : ℕ) → d ≡ raw.day → y ≡ b.year → InMonth y d m → Ours b f t entry m
+    of_this_year d m day this within =
         record {
           is = is_offered ∙ ap (λ (k : ℕ). Ok (k, kept_of entry)) (sym year ∙ this);
           lies = rw (entry_day raw t (kept_of entry) found, ← day, ← this) within;

@@ -19,7 +19,8 @@ use Rattle.journal.specs.Words.{Taken, Stands}
 use Rattle.journal.specs.Contents.{Contents, Row, Marked, row_line}
 use Rattle.journal.specs.Sound.{Place, stands_in, used_rows, row_count, row_grams, Sound}
 use Rattle.journal.specs.Figures.{Sum, AddsUp, none, picked, passed, Standing, OfLine, InLine, IsAdded, IsDeducted, Any, Figures, TotalTold}
-use Rattle.journal.specs.Reads.{month_numbers, year_figure, total_count, net_grams}
+use Rattle.calendar.specs.Months.{month_numbers}
+use Rattle.journal.specs.Reads.{year_figure, total_count, net_grams}
 use Rattle.journal.proofs.SumsOver.{up_from, among, sum_same, sum_along, sum_plus, sum_classes, and_off}
 
 -- the book's rows are the entries that the calls determine to stand

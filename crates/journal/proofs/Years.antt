@@ -1,11 +1,13 @@
 -- A line's months added one after another. Assumes nothing.
-use Rattle.std.proofs.Common.{◌≡◌, ℕ, zero, suc, ◌+◌, ◌-◌, ◌*◌, ◌^◌, ◌<◌, ◌≤◌, [], ◌∷◌, get_or, take, pos, ◌-ℤ◌, Some, sum_by, refl, ap, ◌∙◌, ap₂, arith, w64, SFits, to_z, of_z}
+use Rattle.std.proofs.Common.{◌≡◌, ℕ, zero, suc, ◌+◌, ◌-◌, ◌*◌, ◌^◌, ◌<◌, ◌≤◌, List, [], ◌∷◌, map, get_or, take, pos, ◌-ℤ◌, Ok, sum_by, refl, sym, ap, ◌∙◌, ap₂, arith, w64, SFits, to_z, of_z}
+use Rattle.std.proofs.Math.ListN.{get_or-map}
+use Rattle.std.proofs.lemmas.Grind.{get_or_default_zero}
 use Rattle.std.proofs.lemmas.List.Sums.{sum_by_more, sum_by-take-le}
 use Rattle.std.proofs.lemmas.Int.{ints, to_z_pos, to_z-of_z}
 use Rattle.calendar.specs.declared.month.Month.{Month}
-use Rattle.calendar.specs.Months.{month_in}
 use Rattle.emission.specs.Parts.{most_grams}
 use Rattle.months.specs.declared.line.Line.{Line}
+use Rattle.months.specs.declared.line.Line.TheVariants.{Fuel, Carbonate, Wastewater, PowerBought, HeatBought, PowerSold, HeatSold}
 use Rattle.months.specs.declared.account.Figure.{Figure}
 use Rattle.months.specs.declared.year.Months.{Months}
 use Rattle.months.specs.Lines.{line_number}
@@ -14,8 +16,8 @@ use Rattle.months.proofs.Changes.{line_bounds}
 use Rattle.journal.specs.Contents.{Contents}
 use Rattle.journal.specs.Sound.{Place, Sound}
 use Rattle.journal.proofs.Soundness.{figure_bounds}
-use Rattle.journal.proofs.Steps.{is_month}
-use Rattle.journal.specs.Reads.{month_numbers, year_figure, total_count, net_grams}
+use Rattle.calendar.specs.Months.{month_numbers}
+use Rattle.journal.specs.Reads.{year_figure, year_line_read, total_count, net_grams}
 
 number_at : (i : ℕ) → i < 12 → get_or month_numbers i 0 ≡ i + 1
 number_at zero h = refl
@@ -32,12 +34,13 @@ number_at (suc (suc (suc (suc (suc (suc (suc (suc (suc (suc zero)))))))))) h = r
 number_at (suc (suc (suc (suc (suc (suc (suc (suc (suc (suc (suc zero))))))))))) h = refl
 number_at (suc (suc (suc (suc (suc (suc (suc (suc (suc (suc (suc (suc i)))))))))))) h = absurd (omega arith)
 
+-- the number of the month at a place
+pub numbered : (months : List Month) → map (λ m. m.number) months ≡ month_numbers → (i : ℕ) → i < 12 → (d : Month) → (get_or months i d).number ≡ i + 1
+numbered months all i below d = sym (get_or-map {A = Month} (λ m. m.number) months i d) ∙ ap (λ (l : List ℕ). get_or l i d.number) all ∙ get_or_default_zero month_numbers i d.number below ∙ number_at i below
+
 -- one month more
-pub month_more : (f : ℕ → ℕ) (m : ℕ) → 1 ≤ m → m ≤ 12 → sum_by f (take (m + 1 - 1) month_numbers) ≡ sum_by f (take (m - 1) month_numbers) + f m
-month_more f m low high =
-    let same : m + 1 - 1 ≡ m - 1 + 1 = omega arith in
-    let is : get_or month_numbers (m - 1) 0 ≡ m = number_at (m - 1) (omega arith) ∙ omega arith in
-    ap (λ (k : ℕ). sum_by f (take k month_numbers)) same ∙ sum_by_more f month_numbers (m - 1) 0 (omega arith) ∙ ap (λ (k : ℕ). sum_by f (take (m - 1) month_numbers) + f k) is
+pub month_more : (f : ℕ → ℕ) (i : ℕ) → i < 12 → sum_by f (take (i + 1) month_numbers) ≡ sum_by f (take i month_numbers) + f (i + 1)
+month_more f i below = sum_by_more f month_numbers i 0 (omega arith) ∙ ap (λ (k : ℕ). sum_by f (take i month_numbers) + f k) (number_at i below)
 
 -- what is bounded in each month is bounded in the year, and so is each part of the year
 pub year_most : (f : ℕ → ℕ) (most : ℕ) → ((m : ℕ) → 1 ≤ m → m ≤ 12 → f m ≤ most) → (k : ℕ) → sum_by f (take k month_numbers) ≤ 12 * most
@@ -59,29 +62,37 @@ module _ (b : Contents) (sound : Sound b) (line : Line) where
   unfolding place
   grams_most k = year_most (λ m. (figure_at b.months m (line_number line)).grams) (60000 * most_grams) (λ m low high. (figure_bounds b sound (place m low high)).1) k
 
-  -- with the month of a number added
-  module _ (number : ℕ) (month : Month) (named : Some month.number ≡ month_in number) (figure : Figure) (read : figure ≡ figure_at b.months month.number (line_number line)) where
-    is_next : figure ≡ figure_at b.months number (line_number line)
-    is_next = read ∙ ap (λ (m : ℕ). figure_at b.months m (line_number line)) (is_month number month named).1
+  -- with one month more added
+  module _ (i : ℕ) (below : i < 12) (m : ℕ) (numbered : m ≡ i + 1) (figure : Figure) (read : figure ≡ figure_at b.months m (line_number line)) where
+    is_next : figure ≡ figure_at b.months (i + 1) (line_number line)
+    is_next = read ∙ ap (λ (k : ℕ). figure_at b.months k (line_number line)) numbered
 
-    pub count_more : (count : ℕ) → count ≡ sum_by (λ m. (figure_at b.months m (line_number line)).count) (take (number - 1) month_numbers) → count + figure.count ≡ sum_by (λ m. (figure_at b.months m (line_number line)).count) (take (number + 1 - 1) month_numbers)
+    pub count_more : (count : ℕ) → count ≡ sum_by (λ m. (figure_at b.months m (line_number line)).count) (take i month_numbers) → count + figure.count ≡ sum_by (λ m. (figure_at b.months m (line_number line)).count) (take (i + 1) month_numbers)
     count_more count so_far =
-        let is = (is_month number month named).0 in
-        let more = month_more (λ m. (figure_at b.months m (line_number line)).count) number is.from_january is.to_december in
+        let more = month_more (λ m. (figure_at b.months m (line_number line)).count) i below in
         omega (arith, more, so_far, ap (λ (f : Figure). f.count) is_next)
 
-    pub grams_more : (grams : ℕ) → grams ≡ sum_by (λ m. (figure_at b.months m (line_number line)).grams) (take (number - 1) month_numbers) → grams + figure.grams ≡ sum_by (λ m. (figure_at b.months m (line_number line)).grams) (take (number + 1 - 1) month_numbers)
+    pub grams_more : (grams : ℕ) → grams ≡ sum_by (λ m. (figure_at b.months m (line_number line)).grams) (take i month_numbers) → grams + figure.grams ≡ sum_by (λ m. (figure_at b.months m (line_number line)).grams) (take (i + 1) month_numbers)
     grams_more grams so_far =
-        let is = (is_month number month named).0 in
-        let more = month_more (λ m. (figure_at b.months m (line_number line)).grams) number is.from_january is.to_december in
+        let more = month_more (λ m. (figure_at b.months m (line_number line)).grams) i below in
         omega (arith, more, so_far, ap (λ (f : Figure). f.grams) is_next)
 
 -- the whole year
-pub year_is : (ms : Months) (l number count grams : ℕ) → number - 1 ≡ 12 → count ≡ sum_by (λ m. (figure_at ms m l).count) (take (number - 1) month_numbers) → grams ≡ sum_by (λ m. (figure_at ms m l).grams) (take (number - 1) month_numbers) → ◌≡◌ {A = Figure} (record { count = count; grams = grams }) (year_figure ms l)
-year_is ms l number count grams all counted weighed =
+pub year_is : (ms : Months) (l i count grams : ℕ) → i ≡ 12 → count ≡ sum_by (λ m. (figure_at ms m l).count) (take i month_numbers) → grams ≡ sum_by (λ m. (figure_at ms m l).grams) (take i month_numbers) → ◌≡◌ {A = Figure} (record { count = count; grams = grams }) (year_figure ms l)
+year_is ms l i count grams all counted weighed =
     let n : count ≡ (year_figure ms l).count = counted ∙ ap (λ (k : ℕ). sum_by (λ m. (figure_at ms m l).count) (take k month_numbers)) all in
     let g : grams ≡ (year_figure ms l).grams = weighed ∙ ap (λ (k : ℕ). sum_by (λ m. (figure_at ms m l).grams) (take k month_numbers)) all in
     ap₂ (λ (x y : ℕ). record { count = x; grams = y }) n g
+
+-- the year of a line is read by the line's number
+pub year_read : (ms : Months) (line : Line) (f : Figure) → f ≡ year_figure ms (line_number line) → Ok f ≡ year_line_read ms (line_number line)
+year_read ms Fuel f e = ap Ok e
+year_read ms Carbonate f e = ap Ok e
+year_read ms Wastewater f e = ap Ok e
+year_read ms PowerBought f e = ap Ok e
+year_read ms HeatBought f e = ap Ok e
+year_read ms PowerSold f e = ap Ok e
+year_read ms HeatSold f e = ap Ok e
 
 -- all lines, and those added less those deducted
 sum_of : (f : ℕ → ℕ) (a b c d e g h : ℕ) → a ≡ f 1 → b ≡ f 2 → c ≡ f 3 → d ≡ f 4 → e ≡ f 5 → g ≡ f 6 → h ≡ f 7 → a + b + c + d + e + g + h ≡ sum_by f (1 ∷ 2 ∷ 3 ∷ 4 ∷ 5 ∷ 6 ∷ 7 ∷ [])

@@ -3,13 +3,10 @@ use Rattle.std.specs.Prelude.{ℕ, cond, ◌&&◌, List, [], ◌∷◌, ℤ, pos
 use Rattle.refusal.specs.declared.Layer.TheVariants.{Book}
 use Rattle.refusal.specs.declared.Refusal.{Refusal}
 use Rattle.refusal.specs.Said.{refusal}
+use Rattle.calendar.specs.Months.{month_numbers}
 use Rattle.months.specs.declared.account.Figure.{Figure}
 use Rattle.months.specs.declared.year.Months.{Months}
 use Rattle.months.specs.Accounts.{figure_at}
-
--- the numbers of the months
-abbrev pub month_numbers : List ℕ
-month_numbers = 1 ∷ 2 ∷ 3 ∷ 4 ∷ 5 ∷ 6 ∷ 7 ∷ 8 ∷ 9 ∷ 10 ∷ 11 ∷ 12 ∷ []
 
 -- line l of the year: its twelve months added
 abbrev pub year_figure : Months → ℕ → Figure

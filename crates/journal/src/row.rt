@@ -10,6 +10,8 @@ use reading::Quantities;
 pub struct JournalEntry {
     pub entry: Entry,
     pub month: Month,
+
+    // Beside the entry and not around it: a withdrawn entry stays in the journal.
     pub stands: bool,
 }
 
@@ -23,7 +25,8 @@ pub struct Booked {
 impl JournalEntry {
     // A row to make memory of. It is no entry: promised is only that it does not stand and has no grams.
     pub fn blank() -> JournalEntry
-        ensures { (result.stands ≡ false) × (result.entry.grams ≡ 0) }
+        ensures stands { result.stands ≡ false }
+        ensures grams { result.entry.grams ≡ 0 }
     {
         let entry = Entry {
             day: 0,
@@ -34,13 +37,11 @@ impl JournalEntry {
             factor: None,
             grams: 0,
         };
-        match Month::new(1) {
-            Some(month) => JournalEntry {
-                entry,
-                month,
-                stands: false,
-            },
-            None => unreachable(),
+        let [january, ..] = Month::all();
+        JournalEntry {
+            entry,
+            month: january,
+            stands: false,
         }
     }
 }

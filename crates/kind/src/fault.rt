@@ -10,11 +10,11 @@ pub enum KindFault {
     TierUnknown,
 }
 
-impl KindFault {
-    pub fn refusal(self) -> Refusal
-        ensures { result ≡ refusal_of self }
-    {
-        let number = match self {
+impl From<KindFault> for Refusal {
+    ghost from_gives = { λ e r. r ≡ refusal_of e };
+
+    fn from(fault: KindFault) -> Refusal {
+        let number = match fault {
             KindFault::KindUnknown => 7,
             KindFault::TierUnknown => 8,
         };

@@ -1,7 +1,7 @@
-ghost use Rattle.std.specs.Prelude.{◌≡◌, ◌&&◌, T, nat_le};
+ghost use Rattle.std.specs.Prelude.{◌&&◌, T, nat_le};
 
-// A fuel, by its row of the fuel table.
-#[derive(Clone, Copy, PartialEq, Debug)]
+// A fuel, by its row of the fuel table: no enum, since a match of 21 arms would say no more than the row's range.
+#[derive(Clone, Copy, PartialEq, Eq, Debug)]
 pub struct Fuel {
     row: u8,
     ghost lawful: { T (nat_le 1 row && nat_le row 21) },
@@ -9,21 +9,21 @@ pub struct Fuel {
 
 #[derive(Clone, Copy, PartialEq, Eq, Debug)]
 pub enum Carbonate {
-    Calcium,
-    SodiumBicarbonate,
-    Other,
+    Calcium = 1,
+    SodiumBicarbonate = 2,
+    Other = 3,
 }
 
 // How heat is measured.
 #[derive(Clone, Copy, PartialEq, Eq, Debug)]
 pub enum Heat {
-    Energy,
-    HotWater,
-    SaturatedSteam,
+    Energy = 0,
+    HotWater = 1,
+    SaturatedSteam = 2,
 }
 
 // What a record is about: its kind with its item.
-#[derive(Clone, Copy, PartialEq, Debug)]
+#[derive(Clone, Copy, PartialEq, Eq, Debug)]
 pub enum Kind {
     FuelBurnt(Fuel),
     CarbonateUsed(Carbonate),

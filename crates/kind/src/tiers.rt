@@ -13,21 +13,25 @@ pub enum Tier {
     Default,
 }
 
-impl Tier {
-    pub fn from_letter(letter: char) -> Result<Tier, KindFault>
-        ensures { said letter_of refusal_of result ≡ tier_in letter }
-    {
+impl TryFrom<char> for Tier {
+    type Error = KindFault;
+
+    ghost try_from_gives = { λ letter r. said letter_of refusal_of r ≡ tier_in letter };
+
+    fn try_from(letter: char) -> Result<Tier, KindFault> {
         match letter {
             'M' => Ok(Tier::Measured),
             'D' => Ok(Tier::Default),
             _ => Err(KindFault::TierUnknown),
         }
     }
+}
 
-    pub fn letter(self) -> char
-        ensures { result ≡ letter_of self }
-    {
-        match self {
+impl From<Tier> for char {
+    ghost from_gives = { λ tier letter. letter ≡ letter_of tier };
+
+    fn from(tier: Tier) -> char {
+        match tier {
             Tier::Measured => 'M',
             Tier::Default => 'D',
         }

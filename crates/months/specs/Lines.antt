@@ -1,5 +1,5 @@
 -- The lines of a month, and the line of each kind, in numbers.
-use Rattle.std.specs.Prelude.{ℕ, cond, ◌&&◌, Some, None, Option, ◌==◌, nat_le}
+use Rattle.std.specs.Prelude.{ℕ, cond, ◌&&◌, List, [], ◌∷◌, Some, None, Option, ◌==◌, nat_le}
 use Rattle.months.specs.declared.line.Line.{Line}
 use Rattle.months.specs.declared.line.Line.TheVariants.{Fuel, Carbonate, Wastewater, PowerBought, HeatBought, PowerSold, HeatSold}
 
@@ -11,6 +11,10 @@ line_number PowerBought = 4
 line_number HeatBought = 5
 line_number PowerSold = 6
 line_number HeatSold = 7
+
+-- the numbers of the lines in their order
+abbrev pub line_numbers : List ℕ
+line_numbers = 1 ∷ 2 ∷ 3 ∷ 4 ∷ 5 ∷ 6 ∷ 7 ∷ []
 
 -- the line of a kind: 1 fuel, 2 carbonate and bought CO2, 3 wastewater, 4 power bought, 5 heat bought, 6 power sold, 7 heat sold
 abbrev pub line_of : ℕ → ℕ

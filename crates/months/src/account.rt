@@ -17,6 +17,8 @@ pub struct Figure {
 #[derive(Clone, Copy)]
 pub struct Account {
     state: State,
+
+    // At the place of each line in `Line`.
     lines: [Figure; 7],
 }
 
@@ -70,25 +72,21 @@ impl Account {
     pub(crate) fn figure(self, line: Line) -> Figure
         ensures { result ≡ line_at self (line_number line) }
     {
-        self.lines[(line.number() - 1) as usize]
+        self.lines[line as usize]
     }
 
     fn with_figure(self, line: Line, figure: Figure) -> Account
         ensures { result ≡ with_line self (line_number line) figure }
     {
         let mut lines = self.lines;
-        lines[(line.number() - 1) as usize] = figure;
-        Account {
-            state: self.state,
-            lines,
-        }
+        lines[line as usize] = figure;
+        Account { lines, ..self }
     }
 
     fn with_state(self, state: State) -> Account
         ensures { result ≡ with_state self state }
     {
-        let lines = self.lines;
-        Account { state, lines }
+        Account { state, ..self }
     }
 
     // The state that an event makes of this one; none where the state forbids it.
@@ -103,8 +101,7 @@ impl Account {
         }
     }
 
-    // The month after a change; none where its state forbids it:
-    // booking wants an open month, withdrawing an open or held one.
+    // The month after a change: booking wants an open month, withdrawing an open or held one; none where its state forbids it.
     pub(crate) fn after(self, change: Change) -> Option<Account>
         ensures { result ≡ account_after self change }
     {
@@ -120,10 +117,7 @@ impl Account {
                 )),
                 State::Closed => None,
             },
-            Change::Turn(event) => match self.turned(event) {
-                Some(state) => Some(self.with_state(state)),
-                None => None,
-            },
+            Change::Turn(event) => Some(self.with_state(self.turned(event)?)),
         }
     }
 }

@@ -8,6 +8,6 @@ mod state;
 mod year;
 
 pub use account::{Change, Figure};
-pub use line::Line;
-pub use state::{Event, State};
+pub use line::{Line, NoSuchLine};
+pub use state::{Event, State, StateForbids};
 pub use year::Months;

@@ -6,6 +6,10 @@ pub enum State {
     Closed,
 }
 
+// A month's state forbids what is asked of it.
+#[derive(Clone, Copy, PartialEq, Eq, Debug)]
+pub struct StateForbids;
+
 // What is done to a month's state.
 #[derive(Clone, Copy, PartialEq, Debug)]
 pub enum Event {

@@ -1,5 +1,6 @@
 -- What is exact in the arithmetic on readings.
-use Rattle.std.proofs.Common.{◌≡◌, ℕ, zero, suc, ◌+◌, ◌-◌, ◌*◌, ◌%◌, ◌^◌, ◌<◌, ◌≤◌, Bool, true, false, ◌&&◌, ◌||◌, T, eqb, ltb, leb, ℤ, pos, negsuc, sym, refl, ap, ◌∙◌, subst, true≢false, le_trans, le_of_eq, lt_of_lt_of_le, lt_of_le_of_lt, le_of_lt, lt_irrefl, mul_assoc, mul-le-mul, mul-le-mul_left, mul-pos, lt_of_not-le, mul-one, arith, lit<, lit≤, le→leb, eqb→eq, ltb→lt, leb→le, pow_pos, pow_mono, pow-add, shl_lt}
+use Rattle.std.proofs.Common.{◌≡◌, ℕ, zero, suc, ◌+◌, ◌-◌, ◌*◌, ◌%◌, ◌^◌, ◌<◌, ◌≤◌, Bool, true, false, ◌&&◌, ◌||◌, T, eqb, ltb, leb, ℤ, pos, negsuc, sym, refl, ap, ◌∙◌, subst, true≢false, le_trans, le_of_eq, lt_of_lt_of_le, lt_of_le_of_lt, le_of_lt, lt_irrefl, mul_assoc, mul-le-mul_left, mul-pos, lt_of_not-le, mul-one, arith, lit<, lit≤, le→leb, eqb→eq, ltb→lt, leb→le, pow_pos, pow_mono, pow-add, shl_lt}
+use Rattle.std.proofs.lemmas.Nat.{mul-lt}
 use lib.Pow.{pow-lt}
 use lib.Ieee.{Float, nan, inf, fin, binary32, binary64, up, down, round, mul, le, lt, eq, of_int, in_float, to_unsigned, fits}
 use lib.Ieee.Bits.{is_true}
@@ -118,13 +119,10 @@ holds (suc m) e h =
     let D = ltb (suc m * up e) (2 ^ 128 * down e) in
     (ltb→lt (suc m) (2 ^ 24) (and_r A B (and_l (A && B) C (and_l (A && B && C) D h))), leb→le (down e) (2 ^ 149) (and_r (A && B) C (and_l (A && B && C) D h)), ltb→lt (suc m * up e) (2 ^ 128 * down e) (and_r (A && B && C) D h))
 
-scaled_lt : (k m a b : ℕ) → k < a → m < b → k * m < a * b
-scaled_lt k m a b K M = omega (arith, mul-le-mul {n₁ = k + 1} {m₁ = m + 1} {n₂ = a} {m₂ = b} (omega arith) (omega arith))
-
 exact : (m : ℕ) (e : ℤ) (k : ℕ) → Holds m e → k < 2 ^ 16 → HasValue (round binary64 false (k * (m * up e)) (down e)) false (k * (m * up e)) (down e)
 exact m (pos i) k h K =
-    round_exact binary64 false (k * (m * 2 ^ i)) 1 (k * m) (i + 1074) (omega arith) (omega (arith, scaled_lt k m (2 ^ 16) (2 ^ 24) K h.0))
-    (subst (λ (z : ℕ). z < 2 ^ 2098) (sym p) (lt_of_lt_of_le (shl_lt 144 1074 (omega (arith, scaled_lt k (m * 2 ^ i) (2 ^ 16) (2 ^ 128) K (omega (arith, h.2))))) (pow_mono {i = 144 + 1074} {j = 2098} (lit≤ tt))))
+    round_exact binary64 false (k * (m * 2 ^ i)) 1 (k * m) (i + 1074) (omega arith) (omega (arith, mul-lt k m (2 ^ 16) (2 ^ 24) K h.0))
+    (subst (λ (z : ℕ). z < 2 ^ 2098) (sym p) (lt_of_lt_of_le (shl_lt 144 1074 (omega (arith, mul-lt k (m * 2 ^ i) (2 ^ 16) (2 ^ 128) K (omega (arith, h.2))))) (pow_mono {i = 144 + 1074} {j = 2098} (lit≤ tt))))
     (sym (mul-one (k * m * 2 ^ (i + 1074)) ∙ p))
   where
     p : k * m * 2 ^ (i + 1074) ≡ k * (m * 2 ^ i) * 2 ^ 1074
@@ -135,7 +133,7 @@ exact m (negsuc i) k h K =
     (ap (λ (z : ℕ). k * z * 2 ^ 1074) (mul-one m) ∙ ap (λ (z : ℕ). k * m * 2 ^ z) (sym (rejoin (below (suc i) h.1))) ∙ ap (λ (z : ℕ). k * m * z) (pow-add 2 (1074 - suc i) (suc i)) ∙ sym (mul_assoc (k * m) (2 ^ (1074 - suc i)) (2 ^ suc i)))
   where
     q : k * m < 2 ^ 53
-    q = omega (arith, scaled_lt k m (2 ^ 16) (2 ^ 24) K h.0)
+    q = omega (arith, mul-lt k m (2 ^ 16) (2 ^ 24) K h.0)
 
     below : (j : ℕ) → 2 ^ j ≤ 2 ^ 149 → j ≤ 149
     below j b =
@@ -182,7 +180,7 @@ lawful_clear x low high l = and_l (clear x) (leb (low * under x) (over x) && leb
 small : (x : Float) (k low high : ℕ) → k < 2 ^ 8 → high ≤ 800000 → T (lawful x low high) → nearest (k * over x) (under x) < 2 ^ 31
 small x k low high K H l =
     let bound : k * over x ≤ k * high * under x = le_trans (mul-le-mul_left k (below_high x low high l)) (le_of_eq (sym (mul_assoc k high (under x)))) in
-    let most : k * high < 2 ^ 8 * 800001 = scaled_lt k high (2 ^ 8) 800001 K (omega arith) in
+    let most : k * high < 2 ^ 8 * 800001 = mul-lt k high (2 ^ 8) 800001 K (omega arith) in
     lt_of_le_of_lt (rounding.at_most (k * over x) (under x) (k * high) (under_pos x) bound) (lt_of_lt_of_le most (lit≤ tt))
 
 back_to : (n : ℕ) → n < 2 ^ 31 → to_unsigned 32 (round binary64 false n 1) ≡ n

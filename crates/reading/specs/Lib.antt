@@ -5,5 +5,4 @@ pub mod Refusals
 pub mod Limited
 pub mod Quantity
 pub mod Layout
-pub mod Content
 pub mod Laws

@@ -4,6 +4,7 @@ use Rattle.refusal.specs.declared.Refusal.{Refusal}
 use Rattle.refusal.specs.declared.Layer.TheVariants.{Record}
 use Rattle.refusal.specs.Said.{refusal}
 use Rattle.reading.specs.Dyadic.{lawful}
+use Rattle.reading.specs.declared.limits.Limits.{Limits}
 use Rattle.reading.specs.declared.sets.ReadingSet.{ReadingSet}
 use Rattle.reading.specs.declared.sets.ReadingSet.TheVariants.{Amount, Water, Steam, Wastewater}
 
@@ -13,6 +14,10 @@ pub record Limited : Type 0 where
   pub low : ℕ
   pub high : ℕ
   pub scale : ℕ
+
+-- a reading with its limits as the code has them
+abbrev pub limited : Float × Limits → Limited
+limited (x, l) = record { value = x; low = l.low; high = l.high; scale = l.scale }
 
 -- kilograms and every reading with no limits of its own
 abbrev pub amount : Float → Limited

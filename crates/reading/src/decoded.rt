@@ -1,7 +1,7 @@
 // A set from its bytes.
-ghost use Rattle.std.specs.Prelude.{◌≡◌, ◌+◌, ◌*◌, ◌≤◌, T, length, IfSome};
+ghost use Rattle.std.specs.Prelude.{◌≡◌, ◌*◌, T, IfSome};
 ghost use Rattle.reading.specs.Limited.{lawful_set};
-ghost use Rattle.reading.specs.Layout.{count, reading_at, set_bytes, set_in, shape_of};
+ghost use Rattle.reading.specs.Layout.{count, set_bytes, set_in, shape_of};
 
 use crate::binary32::from_bytes;
 use crate::sets::{ReadingSet, Shape, Steam, Wastewater, Water};
@@ -18,15 +18,6 @@ impl Shape {
             Shape::Wastewater => 20,
         }
     }
-}
-
-// The reading at a place, counted from 0.
-fn reading_at(bytes: &[u8], place: usize) -> f32
-    requires { 4 * place + 4 ≤ length bytes.now }
-    ensures { result ≡ reading_at place bytes.now }
-{
-    let at = 4 * place;
-    from_bytes([bytes[at], bytes[at + 1], bytes[at + 2], bytes[at + 3]])
 }
 
 impl ReadingSet {
@@ -46,26 +37,38 @@ impl ReadingSet {
         ensures value { result ≡ set_in shape bytes.now }
         ensures back { IfSome result (λ set. T (lawful_set set) → set_bytes set ≡ bytes.now) }
     {
-        if bytes.len() != shape.size() {
+        let (readings, []) = bytes.as_chunks::<4>() else {
             return None;
-        }
-        match shape {
-            Shape::Amount => Some(ReadingSet::Amount(reading_at(bytes, 0))),
-            Shape::Water => Some(ReadingSet::Water(Water {
-                kilograms: reading_at(bytes, 0),
-                celsius: reading_at(bytes, 1),
-            })),
-            Shape::Steam => Some(ReadingSet::Steam(Steam {
-                kilograms: reading_at(bytes, 0),
-                kilopascals: reading_at(bytes, 1),
-            })),
-            Shape::Wastewater => Some(ReadingSet::Wastewater(Wastewater {
-                cubic_metres: reading_at(bytes, 0),
-                inlet: reading_at(bytes, 1),
-                outlet: reading_at(bytes, 2),
-                sludge: reading_at(bytes, 3),
-                recovered: reading_at(bytes, 4),
-            })),
-        }
+        };
+        let set = match shape {
+            Shape::Amount => {
+                let [x] = readings.as_array::<1>()?.map(from_bytes);
+                ReadingSet::Amount(x)
+            }
+            Shape::Water => {
+                let [kilograms, celsius] = readings.as_array::<2>()?.map(from_bytes);
+                ReadingSet::Water(Water { kilograms, celsius })
+            }
+            Shape::Steam => {
+                let [kilograms, kilopascals] = readings.as_array::<2>()?.map(from_bytes);
+                ReadingSet::Steam(Steam {
+                    kilograms,
+                    kilopascals,
+                })
+            }
+            Shape::Wastewater => {
+                let [cubic_metres, inlet, outlet, sludge, recovered] = readings
+                    .as_array::<5>()?
+                    .map(from_bytes);
+                ReadingSet::Wastewater(Wastewater {
+                    cubic_metres,
+                    inlet,
+                    outlet,
+                    sludge,
+                    recovered,
+                })
+            }
+        };
+        Some(set)
     }
 }

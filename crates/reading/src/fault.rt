@@ -10,12 +10,12 @@ pub enum ReadingFault {
     Unlawful { index: u8 },
 }
 
-impl ReadingFault {
+impl From<ReadingFault> for Refusal {
+    ghost from_gives = { λ e r. r ≡ refusal_of e };
+
     // Number 9 of the record layer; the place is 0 for the set as a whole.
-    pub fn refusal(self) -> Refusal
-        ensures { result ≡ refusal_of self }
-    {
-        let place = match self {
+    fn from(fault: ReadingFault) -> Refusal {
+        let place = match fault {
             ReadingFault::SetWrong => 0,
             ReadingFault::Unlawful { index } => usize::from(index),
         };

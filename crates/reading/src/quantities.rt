@@ -12,8 +12,5 @@ use crate::sets::{Quantities, ReadingSet};
 pub fn quantities_of(set: ReadingSet) -> Result<Quantities, ReadingFault>
     ensures { said (λ q. q) refusal_of result ≡ counted (checked_set set) }
 {
-    match Readings::new(set) {
-        Ok(readings) => Ok(readings.quantities()),
-        Err(fault) => Err(fault),
-    }
+    Ok(Readings::new(set)?.quantities())
 }

@@ -38,6 +38,7 @@ pub enum Shape {
     Wastewater,
 }
 
+// Structs of their own: a quantity's name has its unit, degrees are counted in hundredths, and a reading's struct is one of f32.
 #[derive(Clone, Copy)]
 pub struct WaterQuantities {
     pub kilograms: u32,

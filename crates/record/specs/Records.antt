@@ -1,5 +1,6 @@
 -- What a record is, as a host states it, as a frame holds it, and as it is written.
 use Rattle.std.specs.Prelude.{ℕ, ◌/◌, ◌%◌, cond, List, [], ◌∷◌, ◌++◌, length, drop, Some, None, Ok, Err, Option, Result, nat_le}
+use Rattle.std.specs.Option.{option_map}
 use Rattle.refusal.specs.declared.Refusal.{Refusal}
 use Rattle.refusal.specs.declared.Layer.TheVariants.{Record, Book}
 use Rattle.refusal.specs.Said.{refusal, then}
@@ -47,8 +48,7 @@ abbrev pub two_bytes : ℕ → List ℕ
 two_bytes n = n / 256 ∷ n % 256 ∷ []
 
 abbrev pub share_bytes : Option ℕ → Option (List ℕ)
-share_bytes None = None
-share_bytes (Some s) = Some (two_bytes s)
+share_bytes = option_map two_bytes
 
 -- the parts of the frame that holds a record and a meter's name
 abbrev pub parts_for : RawRecord → List ℕ → Parts

@@ -18,6 +18,7 @@ pub enum RecordFault {
     ShareWrong,
 }
 
+// Each `From` is written out, since a clause names the fault that `?` makes: one from `thiserror` would have no contract.
 impl From<FrameFault> for RecordFault {
     ghost from_gives = { λ e r. r ≡ Frame e };
 
@@ -50,15 +51,15 @@ impl From<ReadingFault> for RecordFault {
     }
 }
 
-impl RecordFault {
-    pub fn refusal(self) -> Refusal
-        ensures { result ≡ refusal_of self }
-    {
-        match self {
-            RecordFault::Frame(fault) => fault.refusal(),
-            RecordFault::Date(fault) => fault.refusal(),
-            RecordFault::Kind(fault) => fault.refusal(),
-            RecordFault::Readings(fault) => fault.refusal(),
+impl From<RecordFault> for Refusal {
+    ghost from_gives = { λ e r. r ≡ refusal_of e };
+
+    fn from(fault: RecordFault) -> Refusal {
+        match fault {
+            RecordFault::Frame(lower) => lower.into(),
+            RecordFault::Date(lower) => lower.into(),
+            RecordFault::Kind(lower) => lower.into(),
+            RecordFault::Readings(lower) => lower.into(),
             RecordFault::ShareWrong => Refusal {
                 layer: Layer::Record,
                 number: 10,

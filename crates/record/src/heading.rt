@@ -17,13 +17,14 @@ pub struct Heading {
 }
 
 impl Heading {
+    // In numbers and a letter, since frames and hosts state any.
     pub fn new(year: u16, day: u16, kind: u8, item: u8, tier: char) -> Result<Heading, RecordFault>
         ensures { said head_of refusal_of result ≡ head_in year day kind item tier }
     {
-        let year = Year::new(year)?;
+        let year = Year::try_from(year)?;
         let day = Day::new(year, day)?;
         let kind = Kind::new(kind, item)?;
-        let tier = Tier::from_letter(tier)?;
+        let tier = Tier::try_from(tier)?;
         Ok(Heading { day, kind, tier })
     }
 }

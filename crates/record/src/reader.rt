@@ -32,8 +32,8 @@ pub fn read(frame: &[u8]) -> Result<Record, RecordFault>
         fields.item,
         fields.tier as char,
     )?;
-    let Some(set) = ReadingSet::read(heading.kind.shape(), fields.readings) else {
-        return Err(RecordFault::Readings(ReadingFault::SetWrong));
-    };
+    let set = ReadingSet::read(heading.kind.shape(), fields.readings).ok_or(
+        ReadingFault::SetWrong,
+    )?;
     Record::new(heading, set, fields.share())
 }

@@ -1,4 +1,4 @@
-ghost use Rattle.std.specs.Prelude.{◌≡◌, ◌<◌, ◌++◌, length, OnOk};
+ghost use Rattle.std.specs.Prelude.{◌≡◌, ◌++◌, length, OnOk};
 ghost use Rattle.refusal.specs.Said.{said};
 ghost use Rattle.frame.specs.Faults as frames;
 ghost use Rattle.frame.specs.Format.{write_answers, write_leaves};
@@ -14,39 +14,31 @@ use crate::record::Record;
 use frame::{Fields, FrameFault, check_name};
 use kind::Tier;
 
+// Each is a function, so that its bytes are proved to be those of the definition.
 fn two_bytes(n: u16) -> [u8; 2]
     ensures { result ≡ two_bytes n }
 {
-    [(n / 256) as u8, (n % 256) as u8]
+    n.to_be_bytes()
 }
 
 fn date_bytes(year: u16, day: u16) -> [u8; 4]
     ensures { result ≡ two_bytes year ++ two_bytes day }
 {
-    [
-        (year / 256) as u8,
-        (year % 256) as u8,
-        (day / 256) as u8,
-        (day % 256) as u8,
-    ]
+    let [a, b] = two_bytes(year);
+    let [c, d] = two_bytes(day);
+    [a, b, c, d]
 }
 
 fn share_bytes(share: Option<u16>) -> Option<[u8; 2]>
     ensures { result ≡ share_bytes share }
 {
-    match share {
-        Some(share) => Some(two_bytes(share)),
-        None => None,
-    }
+    share.map(two_bytes)
 }
 
 fn letter_byte(tier: Tier) -> u8
     ensures { result ≡ letter_of tier }
 {
-    match tier {
-        Tier::Measured => b'M',
-        Tier::Default => b'D',
-    }
+    char::from(tier) as u8
 }
 
 // Writes a lawful record and a name as a frame.
@@ -77,6 +69,5 @@ pub fn write(raw: RawRecord, name: &[u8], out: &mut [u8]) -> Result<usize, Recor
 {
     check_name(name)?;
     let lawful = raw.check()?;
-    let length = put(lawful, name, out)?;
-    Ok(length)
+    Ok(put(lawful, name, out)?)
 }

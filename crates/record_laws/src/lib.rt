@@ -3,11 +3,10 @@
 
 mod laws;
 
-ghost use Rattle.std.specs.Prelude.{◌≡◌, ℕ, length, take, IfOk, Ok};
+ghost use Rattle.std.specs.Prelude.{◌≡◌, length, take, IfOk};
 ghost use Rattle.refusal.specs.Said.{said};
-ghost use Rattle.frame.specs.Reading.{name_of};
 ghost use Rattle.record.specs.Faults.{refusal_of};
-ghost use Rattle.record.specs.Records.{record_in, record_bytes, write_says, left};
+ghost use Rattle.record.specs.Records.{record_bytes, write_says, left};
 ghost use Rattle.record_laws.specs.Laws.{copy_says, ReadsBack};
 
 pub use laws::records_stand;
@@ -35,6 +34,7 @@ pub fn copy_frame(frame: &[u8], out: &mut [u8]) -> Result<usize, RecordFault>
 #[cfg(test)]
 mod tests {
     use super::*;
+    use refusal::Refusal;
     use std::test::Fail;
 
     // Day 366 of 2024, fuel of row 2, default factor, 1000 kg, no name.
@@ -58,8 +58,9 @@ mod tests {
         match copy_frame(&FRAME, &mut out) {
             Ok(_) => assert!(rt; false),
             Err(fault) => {
-                assert!(rt; fault.refusal().number == 20);
-                assert!(rt; fault.refusal().place == 26);
+                let refusal = Refusal::from(fault);
+                assert!(rt; refusal.number == 20);
+                assert!(rt; refusal.place == 26);
             }
         }
         assert!(rt; out[0] == 9);
@@ -76,7 +77,7 @@ mod tests {
                 Ok(())
             },
             Err(fault) => {
-                assert!(rt; fault.refusal().number == 6);
+                assert!(rt; Refusal::from(fault).number == 6);
                 Ok(())
             },
         }

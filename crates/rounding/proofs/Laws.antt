@@ -1,5 +1,5 @@
 -- The laws of `nearest`. Other crates use these and not its definition.
-use Rattle.std.proofs.Common.{◌≡◌, ℕ, ◌+◌, ◌*◌, ◌<◌, ◌≤◌, sym, mod-lt, div-lt_iff_lt-mul, arith}
+use Rattle.std.proofs.Common.{◌≡◌, ℕ, ◌+◌, ◌-◌, ◌*◌, ◌/◌, ◌%◌, ◌<◌, ◌≤◌, sym, mod-lt, div-lt_iff_lt-mul, arith}
 use native.Mathlib.Nat.{div-add-mod, div-eq_of_lt-le}
 use lib.Ieee.Nearest.{div_same}
 use Rattle.rounding.specs.Nearest.{nearest}
@@ -25,9 +25,13 @@ at_most over under n u h =
     let below : nearest over under < n + 1 = (div-lt_iff_lt-mul {k = 2 * under} {x = 2 * over + under} {y = n + 1} (omega arith)).1 (omega arith) in
     omega arith
 
--- a whole part and a rest below the half, and one of a half or more
-pub down : (over under q r : ℕ) → 1 ≤ under → q * under + r ≡ over → r + r < under → q ≡ nearest over under
-down over under q r u e h = only over under q u (omega arith, omega arith)
+-- the whole part where the rest is below the half, and one more where it is not
+pub down : (over under : ℕ) → 0 < under → over % under < under - over % under → over / under ≡ nearest over under
+down over under u h =
+    let parts : over / under * under + over % under ≡ over = omega (arith, div-add-mod over under) in
+    only over under (over / under) u (omega arith, omega arith)
 
-pub up : (over under q r : ℕ) → 1 ≤ under → q * under + r ≡ over → r < under → under ≤ r + r → q + 1 ≡ nearest over under
-up over under q r u e l h = only over under (q + 1) u (omega arith, omega arith)
+pub up : (over under : ℕ) → 0 < under → under - over % under ≤ over % under → over / under + 1 ≡ nearest over under
+up over under u h =
+    let parts : over / under * under + over % under ≡ over = omega (arith, div-add-mod over under) in
+    only over under (over / under + 1) u (omega arith, omega (arith, mod-lt over u))

@@ -6,13 +6,11 @@ ghost use Rattle.rounding.specs.Laws.{Stands};
 ghost use Rattle.rounding.specs.Nearest.{nearest};
 
 // The whole number nearest to over / under, unless under is 0.
+#[tactic(auto, using(crate::proofs::Laws::down, crate::proofs::Laws::up))]
 pub fn nearest_whole(over: u128, under: u128) -> Option<u128>
     ensures { result ≡ (if nat_eq under 0 then None else Some (nearest over under)) }
 {
-    if under == 0 {
-        return None;
-    }
-    let whole = over / under;
+    let whole = over.checked_div(under)?;
     let rest = over % under;
     // Twice the rest is not below the denominator: a half or more is left.
     if rest < under - rest {

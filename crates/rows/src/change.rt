@@ -1,18 +1,18 @@
-ghost use Rattle.std.specs.Prelude.{◌≡◌, ◌<◌, ◌≤◌, true, false, length as length_of, MatchBool, MatchResult, slice_set};
+ghost use Rattle.std.specs.Prelude.{◌≡◌, ◌<◌, ◌≤◌, length, slice_set, IfErr, IfOk, MatchResult};
 ghost use Rattle.rows.specs.Held.{Appended, Refused, Replaced, Kept};
 
-use super::{Full, Rows};
+use super::{Full, NoRow, Rows};
 
-fn store<T: Copy>(rows: &mut [T], at: usize, row: T) -> bool
-    ensures full { result ≡ false → (length_of rows.old ≤ at) × (rows.new ≡ rows.old) }
-    ensures stored { result ≡ true → (at < length_of rows.old) × (rows.new ≡ slice_set rows.old at row) }
+// Stores a row, if the slice has the place; over the slice, as `fetch`, whatever its rows are.
+fn store<T: Copy>(rows: &mut [T], at: usize, row: T) -> Result<(), Full>
+    ensures full { IfErr result (λ _. (length rows.old ≤ at) × (rows.new ≡ rows.old)) }
+    ensures stored { IfOk result (λ _. (at < length rows.old) × (rows.new ≡ slice_set rows.old at row)) }
 {
-    if at < rows.len() {
-        rows[at] = row;
-        true
-    } else {
-        false
+    if at >= rows.len() {
+        return Err(Full);
     }
+    rows[at] = row;
+    Ok(())
 }
 
 impl<'m, T: Copy> Rows<'m, T> {
@@ -21,25 +21,20 @@ impl<'m, T: Copy> Rows<'m, T> {
         ensures memory { self.new.rows.ghost_name ≡ self.old.rows.ghost_name }
         ensures change { MatchResult result (λ n. (n ≡ self.new.length) × Appended row self.old.rows.now self.old.length self.new.rows.now self.new.length) (λ _. Refused self.old.rows.now self.old.length self.new.rows.now self.new.length) }
     {
-        let at = self.length;
-        if store(self.rows, at, row) {
-            self.length = at + 1;
-            Ok(at + 1)
-        } else {
-            Err(Full)
-        }
+        store(self.rows, self.length, row)?;
+        self.length += 1;
+        Ok(self.length)
     }
 
-    // Replaces a row; false where the list has none at this place.
-    pub fn put(&mut self, at: usize, row: T) -> bool
+    // Replaces a row.
+    pub fn put(&mut self, at: usize, row: T) -> Result<(), NoRow>
         ensures memory { self.new.rows.ghost_name ≡ self.old.rows.ghost_name }
         ensures count { self.new.length ≡ self.old.length }
-        ensures change { MatchBool result (Replaced row self.old.rows.now self.old.length at self.new.rows.now) (Kept self.old.rows.now self.old.length at self.new.rows.now) }
+        ensures change { MatchResult result (λ _. Replaced row self.old.rows.now self.old.length at self.new.rows.now) (λ _. Kept self.old.rows.now self.old.length at self.new.rows.now) }
     {
-        if at < self.length {
-            store(self.rows, at, row)
-        } else {
-            false
+        if at >= self.length {
+            return Err(NoRow);
         }
+        store(self.rows, at, row).or(Err(NoRow))
     }
 }

@@ -1,5 +1,6 @@
 -- The table's rule at each of its rows, from one test that antt computes over the whole table. Assumes nothing.
-use Rattle.std.proofs.Common.{◌≡◌, ℕ, zero, suc, ◌+◌, ◌-◌, ◌*◌, ◌/◌, ◌<◌, ◌≤◌, Bool, ◌&&◌, T, eqb, ltb, leb, List, [], ◌∷◌, length, get_or, sym, refl, subst, le_of_suc-le-suc, not-suc-le-zero, add-one, arith, eqb→eq, ltb→lt, leb→le}
+use Rattle.std.proofs.Common.{◌≡◌, ℕ, zero, suc, ◌+◌, ◌-◌, ◌*◌, ◌/◌, ◌<◌, ◌≤◌, Bool, ◌&&◌, T, eqb, ltb, leb, List, [], ◌∷◌, length, get_or, sym, refl, ap, subst, inl, inr, le_of_suc-le-suc, not-suc-le-zero, add-one, arith, eqb→eq, ltb→lt, leb→le}
+use Rattle.std.proofs.lemmas.Bool.{cases_lt}
 use lib.Ieee.Fits.{and_l, and_r}
 use Rattle.steam.specs.Table.{Row, rows, row_at}
 use Rattle.steam.specs.Laws.{Step, Table}
@@ -57,6 +58,27 @@ pub steps : (i : ℕ) → i + 1 < 72 → Step i
 steps i h =
     let s = stepped_step (row_at i) (row_at (i + 1)) (subst (λ (j : ℕ). T (stepped (row_at i) (row_at j))) (sym (add-one i)) (step i h)) in
     record { rises = s.0; gaps = 1000 / ((row_at (i + 1)).0 - (row_at i).0); divides = s.1 }
+
+-- the pressure is higher at every later place
+pub higher : (i j : ℕ) → i < j → j < 72 → (row_at i).0 < (row_at j).0
+higher i zero l h = absurd (not-suc-le-zero l)
+higher i (suc j) l h =
+    let s : (row_at j).0 < (row_at (suc j)).0 = subst (λ (n : ℕ). (row_at j).0 < (row_at n).0) (add-one j) (steps j (omega arith)).rises in
+    elim (cases_lt i j) [
+      | inl b ↦ omega (arith, higher i j b (omega arith), s)
+      | inr b ↦
+          let e : j ≡ i = omega arith in
+          subst (λ (n : ℕ). (row_at n).0 < (row_at (suc j)).0) e s
+    ]
+
+pub no_lower : (i j : ℕ) → i ≤ j → j < 72 → (row_at i).0 ≤ (row_at j).0
+no_lower i j l h =
+    elim (cases_lt i j) [
+      | inl b ↦ omega (arith, higher i j b h)
+      | inr b ↦
+          let e : i ≡ j = omega arith in
+          omega (arith, ap (λ (n : ℕ). (row_at n).0) e)
+    ]
 
 pub size : length rows ≡ 72
 unfolding rows

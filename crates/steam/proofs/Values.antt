@@ -1,34 +1,13 @@
 -- The enthalpy at every pressure. Assumes nothing.
-use Rattle.std.proofs.Common.{◌≡◌, ℕ, zero, suc, ◌+◌, ◌-◌, ◌*◌, ◌<◌, ◌≤◌, sym, refl, ap, ◌∙◌, subst, inl, inr, not-suc-le-zero, add-zero, mul-le-mul_right, mul-zero, zero-add, mul_right_comm, add-one, arith}
+use Rattle.std.proofs.Common.{◌≡◌, ℕ, zero, suc, ◌+◌, ◌-◌, ◌*◌, ◌<◌, ◌≤◌, sym, refl, ap, ◌∙◌, subst, inl, inr, add-zero, mul-le-mul_right, mul-zero, zero-add, mul_right_comm, arith}
 use native.Mathlib.Nat.{sub_self}
 use Rattle.std.proofs.lemmas.Bool.{cases_lt, cases_order}
 use Rattle.steam.specs.Table.{Row, row_at}
-use Rattle.steam.specs.Line.{OnLine, Saturated, enthalpy_over, enthalpy_under}
+use Rattle.steam.specs.Line.{OnLine, Neighbours, Saturated, enthalpy_over, enthalpy_under}
 use Rattle.steam.specs.Laws.{OneValue, Bounds}
-use Rattle.steam.proofs.Rows.{size, first, last, least, most, steps}
+use Rattle.steam.proofs.Rows.{size, first, last, least, most, steps, higher, no_lower}
 use Rattle.steam.proofs.Weights.{at_most, at_least}
 use Rattle.steam.proofs.Search.{holds}
-
--- the pressure is higher at every later place
-higher : (i j : ℕ) → i < j → j < 72 → (row_at i).0 < (row_at j).0
-higher i zero l h = absurd (not-suc-le-zero l)
-higher i (suc j) l h =
-    let s : (row_at j).0 < (row_at (suc j)).0 = subst (λ (n : ℕ). (row_at j).0 < (row_at n).0) (add-one j) (steps j (omega arith)).rises in
-    elim (cases_lt i j) [
-      | inl b ↦ omega (arith, higher i j b (omega arith), s)
-      | inr b ↦
-          let e : j ≡ i = omega arith in
-          subst (λ (n : ℕ). (row_at n).0 < (row_at (suc j)).0) e s
-    ]
-
-no_lower : (i j : ℕ) → i ≤ j → j < 72 → (row_at i).0 ≤ (row_at j).0
-no_lower i j l h =
-    elim (cases_lt i j) [
-      | inl b ↦ omega (arith, higher i j b h)
-      | inr b ↦
-          let e : i ≡ j = omega arith in
-          omega (arith, ap (λ (n : ℕ). (row_at n).0) e)
-    ]
 
 -- an enthalpy by the place of its lower row
 record At (p place over under : ℕ) : Type 0 where
@@ -106,10 +85,7 @@ same_value p o₁ u₁ o₂ u₂ s t =
       | inr (inr g) ↦ sym (meet p j i o₂ u₂ o₁ u₁ w v g)
     ]
 
--- from 1 to 22,000 kPa there is an enthalpy
-pub exists : (p : ℕ) → 1 ≤ p → p ≤ 22000 → Saturated p (enthalpy_over p) (enthalpy_under p)
-exists = holds
-
+-- from 1 to 22,000 kPa there is one enthalpy
 pub one_value : (p : ℕ) → 1 ≤ p → p ≤ 22000 → OneValue p
 one_value p o t = record { holds = holds p o t; alone = λ over under s. same_value p over under (enthalpy_over p) (enthalpy_under p) s (holds p o t) }
 
@@ -138,6 +114,8 @@ bounded p over under s =
       most = omega (arith, w.numerator, sum, at_most a.1 b.1 (b.0 - p) (p - a.0) (most k (omega (arith, w.inside))) (most (k + 1) w.inside));
     }
 
--- 83.74 kJ/kg, the enthalpy of water at 20 °C, is below that of steam at every pressure
-pub above_water : (p over under : ℕ) → Saturated p over under → 8374 * under ≤ over
-above_water p over under s = omega (arith, (bounded p over under s).least)
+-- the weighted sum of two neighbouring rows is small
+pub sum_small : (p : ℕ) (a b : Row) → Neighbours p a b → a.1 * (b.0 - p) + b.1 * (p - a.0) ≤ 280190 * 1000
+sum_small p a b n =
+    let w = bounded p (a.1 * (b.0 - p) + b.1 * (p - a.0)) (b.0 - a.0) (record { a = a; b = b; between = n.between; on_line = record { numerator = refl; denominator = refl } }) in
+    omega (arith, w.most, w.narrow)

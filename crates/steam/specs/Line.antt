@@ -41,3 +41,8 @@ enthalpy_over p = (enthalpy p).0
 
 abbrev pub enthalpy_under : ℕ → ℕ
 enthalpy_under p = (enthalpy p).1
+
+-- p lies between a and b, and its enthalpy is on the line through them
+pub record Neighbours (p : ℕ) (a b : Row) : Type 0 where
+  pub between : Between p a b
+  pub on_line : enthalpy p ≡ line p a b

@@ -1,17 +1,11 @@
-ghost use Rattle.std.specs.Prelude.{◌≡◌, ◌<◌};
-ghost use Rattle.steam.specs.Table.{row_at};
+ghost use Rattle.std.specs.Prelude.{◌<◌, ◌⊎◌, MatchOption};
+ghost use Rattle.steam.specs.Line.{Neighbours};
 
-// An absolute pressure, and the enthalpy of saturated steam there in hundredths of kJ/kg.
-#[derive(Clone, Copy)]
-pub(crate) struct Row {
-    pub(crate) kilopascals: u32,
-    pub(crate) hundredths: u32,
-}
+// An absolute pressure in kPa, and the enthalpy of saturated steam there in hundredths of kJ/kg.
+type Row = (u32, u32);
 
-pub(crate) const COUNT: usize = 72;
-
-// A row's two numbers to a line, by rising pressure.
-const ROWS: [(u32, u32); COUNT] = [
+// By rising pressure.
+const ROWS: [Row; 72] = [
     (1, 251380),
     (2, 253320),
     (3, 254520),
@@ -86,15 +80,16 @@ const ROWS: [(u32, u32); COUNT] = [
     (22000, 219250),
 ];
 
-// The row at a place, counted from 0.
-pub(crate) fn row_at(place: usize) -> Row
-    requires { place < 72 }
-    ensures pressure { result.kilopascals ≡ (row_at place).0 }
-    ensures enthalpy { result.hundredths ≡ (row_at place).1 }
+// The rows between which a pressure lies; a row's own pressure lies between it and the row before, the first row's between the first two.
+pub(crate) fn rows_about(kilopascals: u32) -> Option<(Row, Row)>
+    ensures { MatchOption result ((kilopascals < 1) ⊎ (22000 < kilopascals)) (λ r. Neighbours kilopascals r.0 r.1) }
 {
-    let (kilopascals, hundredths) = ROWS[place];
-    Row {
-        kilopascals,
-        hundredths,
+    let place = ROWS[1..].partition_point(|row| row.0 < kilopascals);
+    let &[lower, upper, ..] = &ROWS[place..] else {
+        return None;
+    };
+    if kilopascals < lower.0 {
+        return None;
     }
+    Some((lower, upper))
 }

@@ -1,4 +1,4 @@
-// A call of the book as a list of them holds it; an offering names its source by its place among those at hand.
+// A call of the book, as a host makes it; an offering names its source by its place, since two offerings may ask one source.
 #[derive(Clone, Copy)]
 pub enum Call<'f> {
     Offer(&'f [u8], usize),

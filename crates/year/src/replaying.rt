@@ -11,12 +11,13 @@ use calendar::Year;
 use factor::{Nothing, Source};
 use journal::JournalEntry;
 
-// Offers a frame with the source at a place; where there is none, with one that holds nothing.
+// Offers a frame with the source at a place, or with one that holds nothing; book and sources stay two, since a call lends one to the other.
 fn offer_from<S: Source>(book: &mut Book<'_>, sources: &mut [S], at: usize, frame: &[u8])
     ensures called { Called (offer_from (map S.Source.table sources.old) at frame.now) (contents_of book.old) (contents_of book.new) }
     ensures tables { map S.Source.table sources.new ≡ map S.Source.table sources.old }
     ensures memory { book.new.journal.rows.ghost_name ≡ book.old.journal.rows.ghost_name }
 {
+    // By index: what a slice's `get_mut` lends leaves unknown which tables the sources then have.
     if at < sources.len() {
         let _ = book.offer(frame, &mut sources[at]);
     } else {

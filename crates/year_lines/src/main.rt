@@ -4,12 +4,12 @@
 
 mod tonnes;
 
-use anyhow::anyhow;
 use book::Book;
 use book_log::{frames_of, offer_frames, year_of};
 use calendar::Year;
 use factor::{Pair, PlantList, Printed};
 use journal::JournalEntry;
+use months::Line;
 use std::io::Read;
 use tonnes::Tonnes;
 use year::open;
@@ -17,23 +17,16 @@ use year::open;
 // Room for the entries of the journal.
 const ENTRIES: usize = 1_000;
 
-const LINES: u8 = 7;
-
-fn print_line(rt: &HostRuntime, book: &Book<'_>, line: u8) -> anyhow::Result<()> {
-    let Ok(figure) = book.year_line(line) else {
-        return Err(anyhow!("no such line"));
-    };
-    let count = figure.count;
-    let tonnes = Tonnes::of(figure.grams);
-    println!(rt; "{line} {count} {tonnes}")?;
+fn print_line(rt: &HostRuntime, book: &Book<'_>, line: Line) -> anyhow::Result<()> {
+    let figure = book.year_figure(line);
+    let tonnes = Tonnes::from(figure.grams);
+    println!(rt; "{} {} {tonnes}", u8::from(line), figure.count)?;
     Ok(())
 }
 
 fn print_total(rt: &HostRuntime, book: &Book<'_>) -> anyhow::Result<()> {
     let total = book.total();
-    let count = total.count;
-    let tonnes = Tonnes::net(total.grams);
-    println!(rt; "T {count} {tonnes}")?;
+    println!(rt; "T {} {}", total.count, Tonnes::from(total.grams))?;
     Ok(())
 }
 
@@ -43,28 +36,21 @@ fn print_year(rt: &HostRuntime, year: Year, frames: &[u8]) -> anyhow::Result<()>
     let mut book = open(year, memory.as_mut_slice());
     let mut pair = Pair::new(PlantList::new(&mut []), Printed);
     let counts = offer_frames(&mut book, &mut pair, frames);
-    let number = year.number();
-    let taken = counts.taken;
-    let refused = counts.refused;
-    println!(rt; "{number} {taken} {refused}")?;
-    for line in 1..=LINES {
+    println!(rt; "{} {counts}", year.number())?;
+    for line in Line::all() {
         print_line(rt, &book, line)?;
     }
     print_total(rt, &book)
 }
 
-fn run(rt: &HostRuntime) -> anyhow::Result<()> {
+fn main(rt: HostRuntime) -> anyhow::Result<()> {
     let mut log = Vec::new(rt.alloc());
     rt.stdin().read_to_end(&mut log)?;
     match year_of(log.as_slice()) {
-        Some(year) => print_year(rt, year, frames_of(log.as_slice())),
+        Some(year) => print_year(&rt, year, frames_of(log.as_slice())),
         None => {
             rt.println("0 0 0")?;
             Ok(())
         }
     }
-}
-
-fn main(rt: HostRuntime) -> anyhow::Result<()> {
-    run(&rt)
 }

@@ -44,7 +44,7 @@ impl<'m> Book<'m> {
         let lawful = read(frame)?;
         let entry = entry_of(lawful, source)?;
         let day = lawful.day();
-        if day.year().number() != self.year.number() {
+        if day.year() != self.year {
             return Err(BookFault::OtherYear);
         }
         let month = day.month();
@@ -59,13 +59,11 @@ impl<'m> Book<'m> {
             month,
             stands: true,
         };
-        let Ok(number) = self.journal.push(row) else {
-            return Err(BookFault::JournalFull);
-        };
+        let number = self.journal.push(row)?;
         let grams = entry.grams;
-        let line = Line::of(entry.kind);
+        let line = Line::from(entry.kind);
         // The month is open, so it takes the booking.
-        self.months.change(month, Change::Book(line, grams));
+        let _ = self.months.change(month, Change::Book(line, grams));
         Ok(Booked { number, grams })
     }
 
@@ -73,11 +71,9 @@ impl<'m> Book<'m> {
     fn standing(&self, number: usize) -> Option<JournalEntry>
         ensures { MatchOption result ((e : Kept) → Marked (contents_of self.now) number e → ⊥) (λ row. Row (contents_of self.now) number row × (row.stands ≡ true)) }
     {
-        if number == 0 {
-            return None;
-        }
-        let row = self.journal.get(number - 1)?;
-        if row.stands { Some(row) } else { None }
+        let at = number.checked_sub(1)?;
+        let row = self.journal.get(at)?;
+        row.stands.then_some(row)
     }
 
     // The entry stays in the journal and no longer stands.
@@ -86,38 +82,29 @@ impl<'m> Book<'m> {
         ensures follows { Extends (contents_of self.old) (withdraw_call number) (said booked_of refusal_of result) (contents_of self.new) }
         ensures memory { self.new.journal.rows.ghost_name ≡ self.old.journal.rows.ghost_name }
     {
-        let Some(row) = self.standing(number) else {
-            return Err(BookFault::NoStandingEntry);
-        };
+        let row = self.standing(number).ok_or(BookFault::NoStandingEntry)?;
         let month = row.month;
         let grams = row.entry.grams;
-        let line = Line::of(row.entry.kind);
-        if !self.months.change(month, Change::Withdraw(line, grams)) {
-            return Err(BookFault::StateForbids);
-        }
+        let line = Line::from(row.entry.kind);
+        self.months.change(month, Change::Withdraw(line, grams))?;
         let withdrawn = JournalEntry {
-            entry: row.entry,
-            month,
             stands: false,
+            ..row
         };
         // The row is there: it was just read.
-        self.journal.put(number - 1, withdrawn);
+        let _ = self.journal.put(number - 1, withdrawn);
         Ok(Booked { number, grams })
     }
 
+    // What the three calls below share; a month comes as a number, here and in the readers, since every number has its answer.
     fn turn(&mut self, month: u8, event: Event) -> Result<u8, BookFault>
         ensures step { Step (contents_of self.old) (turn_call month event) (said a_month refusal_of result) (contents_of self.new) }
         ensures follows { Extends (contents_of self.old) (turn_call month event) (said a_month refusal_of result) (contents_of self.new) }
         ensures memory { self.new.journal.rows.ghost_name ≡ self.old.journal.rows.ghost_name }
     {
-        let Some(named) = Month::new(month) else {
-            return Err(BookFault::NoSuchMonth);
-        };
-        if self.months.change(named, Change::Turn(event)) {
-            Ok(month)
-        } else {
-            Err(BookFault::StateForbids)
-        }
+        let named = Month::try_from(month)?;
+        self.months.change(named, Change::Turn(event))?;
+        Ok(month)
     }
 
     // Holds an open month: it takes no more frames; withdrawals are still taken.

@@ -1,4 +1,4 @@
-ghost use Rattle.std.specs.Prelude.{◌≡◌, ◌*◌, ◌≤◌, IfErr, if◌then◌else◌, is_some};
+ghost use Rattle.std.specs.Prelude.{◌≡◌, ◌*◌, ◌≤◌, IfErr, if◌then◌else◌, is_some, Ok};
 ghost use Rattle.refusal.specs.Said.{said};
 ghost use Rattle.calendar.specs.Months.{month_in};
 ghost use Rattle.emission.specs.Parts.{most_grams};
@@ -28,43 +28,35 @@ impl<'m> Book<'m> {
         ensures told { TellsLine (contents_of self.now) month line (said (λ f. f) refusal_of result) }
         ensures fault { IfErr result (λ e. e ≡ (if is_some (month_in month) then NoSuchLine else NoSuchMonth)) }
     {
-        let Some(month) = Month::new(month) else {
-            return Err(BookFault::NoSuchMonth);
-        };
-        let Some(line) = Line::new(line) else {
-            return Err(BookFault::NoSuchLine);
-        };
+        let month = Month::try_from(month)?;
+        let line = Line::try_from(line)?;
         Ok(self.months.figure(month, line))
     }
 
-    // The twelve months of a line added. No line has more than 60,000 entries in a month, so that nothing overflows.
-    fn year_figure(&self, line: Line) -> Figure
+    // A line of the whole year: its twelve months added. No line has more than 60,000 entries in a month, so that nothing overflows.
+    pub fn year_figure(&self, line: Line) -> Figure
         ensures is { result ≡ year_figure self.now.months (line_number line) }
         ensures few { result.count ≤ 12 * 60000 }
         ensures light { result.grams ≤ 12 * (60000 * most_grams) }
+        ensures told { TellsYearLine (contents_of self.now) (line_number line) (Ok result) }
     {
         let mut count = 0;
         let mut grams = 0;
-        for number in 1..=12 {
-            if let Some(month) = Month::new(number) {
-                let figure = self.months.figure(month, line);
-                count += figure.count;
-                grams += figure.grams;
-            }
+        for month in Month::all() {
+            let figure = self.months.figure(month, line);
+            count += figure.count;
+            grams += figure.grams;
         }
         Figure { count, grams }
     }
 
-    // A line of the whole year.
+    // A line of the whole year by its number.
     pub fn year_line(&self, line: u8) -> Result<Figure, BookFault>
         ensures reads { said (λ f. f) refusal_of result ≡ year_line_read self.now.months line }
         ensures told { TellsYearLine (contents_of self.now) line (said (λ f. f) refusal_of result) }
         ensures fault { IfErr result (λ e. e ≡ NoSuchLine) }
     {
-        match Line::new(line) {
-            Some(line) => Ok(self.year_figure(line)),
-            None => Err(BookFault::NoSuchLine),
-        }
+        Ok(self.year_figure(Line::try_from(line)?))
     }
 
     // All that stands: its count, and what the lines that count as emissions come to less the power and heat sold.
@@ -73,6 +65,7 @@ impl<'m> Book<'m> {
         ensures net { result.grams ≡ net_grams self.now.months }
         ensures told { TellsTotal (contents_of self.now) result.count result.grams }
     {
+        // Line by line, as the rule has it: five are added and two deducted.
         let fuel = self.year_figure(Line::Fuel);
         let carbonate = self.year_figure(Line::Carbonate);
         let wastewater = self.year_figure(Line::Wastewater);

@@ -8,28 +8,34 @@ use super::{Carbonate, Fuel, Heat, Kind};
 use crate::fault::KindFault;
 use reading::Shape;
 
-impl Fuel {
-    pub fn new(row: u8) -> Result<Fuel, KindFault>
-        ensures { said fuel_item refusal_of result ≡ fuel_in row }
-    {
+impl TryFrom<u8> for Fuel {
+    type Error = KindFault;
+
+    ghost try_from_gives = { λ row r. said fuel_item refusal_of r ≡ fuel_in row };
+
+    fn try_from(row: u8) -> Result<Fuel, KindFault> {
         if 1 <= row && row <= 21 {
             Ok(Fuel { row })
         } else {
             Err(KindFault::KindUnknown)
         }
     }
+}
 
-    pub fn row(self) -> u8
-        ensures { result ≡ fuel_item self }
-    {
-        self.row
+impl From<Fuel> for u8 {
+    ghost from_gives = { λ fuel n. n ≡ fuel_item fuel };
+
+    fn from(fuel: Fuel) -> u8 {
+        fuel.row
     }
 }
 
-impl Carbonate {
-    pub fn new(item: u8) -> Result<Carbonate, KindFault>
-        ensures { said carbonate_item refusal_of result ≡ carbonate_in item }
-    {
+impl TryFrom<u8> for Carbonate {
+    type Error = KindFault;
+
+    ghost try_from_gives = { λ item r. said carbonate_item refusal_of r ≡ carbonate_in item };
+
+    fn try_from(item: u8) -> Result<Carbonate, KindFault> {
         match item {
             1 => Ok(Carbonate::Calcium),
             2 => Ok(Carbonate::SodiumBicarbonate),
@@ -37,22 +43,22 @@ impl Carbonate {
             _ => Err(KindFault::KindUnknown),
         }
     }
+}
 
-    pub fn item(self) -> u8
-        ensures { result ≡ carbonate_item self }
-    {
-        match self {
-            Carbonate::Calcium => 1,
-            Carbonate::SodiumBicarbonate => 2,
-            Carbonate::Other => 3,
-        }
+impl From<Carbonate> for u8 {
+    ghost from_gives = { λ carbonate n. n ≡ carbonate_item carbonate };
+
+    fn from(carbonate: Carbonate) -> u8 {
+        carbonate as u8
     }
 }
 
-impl Heat {
-    pub fn new(item: u8) -> Result<Heat, KindFault>
-        ensures { said heat_item refusal_of result ≡ heat_in item }
-    {
+impl TryFrom<u8> for Heat {
+    type Error = KindFault;
+
+    ghost try_from_gives = { λ item r. said heat_item refusal_of r ≡ heat_in item };
+
+    fn try_from(item: u8) -> Result<Heat, KindFault> {
         match item {
             0 => Ok(Heat::Energy),
             1 => Ok(Heat::HotWater),
@@ -60,17 +66,17 @@ impl Heat {
             _ => Err(KindFault::KindUnknown),
         }
     }
+}
 
-    pub fn item(self) -> u8
-        ensures { result ≡ heat_item self }
-    {
-        match self {
-            Heat::Energy => 0,
-            Heat::HotWater => 1,
-            Heat::SaturatedSteam => 2,
-        }
+impl From<Heat> for u8 {
+    ghost from_gives = { λ heat n. n ≡ heat_item heat };
+
+    fn from(heat: Heat) -> u8 {
+        heat as u8
     }
+}
 
+impl Heat {
     fn shape(self) -> Shape
         ensures { result ≡ shape_in 7 (heat_item self) }
     {
@@ -83,15 +89,15 @@ impl Heat {
 }
 
 impl Kind {
-    // The kind of a number, with its item.
+    // The kind of a number, with its item: two parameters name the two numbers, where the TryFrom of a pair would not.
     pub fn new(kind: u8, item: u8) -> Result<Kind, KindFault>
         ensures { said numbers_of refusal_of result ≡ kind_in kind item }
     {
         match kind {
-            1 => Ok(Kind::FuelBurnt(Fuel::new(item)?)),
-            2 => Ok(Kind::CarbonateUsed(Carbonate::new(item)?)),
-            7 => Ok(Kind::HeatBought(Heat::new(item)?)),
-            8 => Ok(Kind::HeatSold(Heat::new(item)?)),
+            1 => Ok(Kind::FuelBurnt(Fuel::try_from(item)?)),
+            2 => Ok(Kind::CarbonateUsed(Carbonate::try_from(item)?)),
+            7 => Ok(Kind::HeatBought(Heat::try_from(item)?)),
+            8 => Ok(Kind::HeatSold(Heat::try_from(item)?)),
             _ => Kind::without_item(kind, item),
         }
     }
@@ -109,6 +115,7 @@ impl Kind {
         }
     }
 
+    // A kind has two numbers, so neither is a conversion of it.
     pub fn number(self) -> u8
         ensures { result ≡ (numbers_of self).0 }
     {
@@ -128,11 +135,10 @@ impl Kind {
         ensures { result ≡ (numbers_of self).1 }
     {
         match self {
-            Kind::FuelBurnt(fuel) => fuel.row(),
-            Kind::CarbonateUsed(carbonate) => carbonate.item(),
+            Kind::FuelBurnt(fuel) => fuel.into(),
+            Kind::CarbonateUsed(carbonate) => carbonate.into(),
             Kind::BoughtCo2 | Kind::WastewaterTreated | Kind::PowerBought | Kind::PowerSold => 0,
-            Kind::HeatBought(heat) => heat.item(),
-            Kind::HeatSold(heat) => heat.item(),
+            Kind::HeatBought(heat) | Kind::HeatSold(heat) => heat.into(),
         }
     }
 
@@ -147,8 +153,7 @@ impl Kind {
             | Kind::PowerBought
             | Kind::PowerSold => Shape::Amount,
             Kind::WastewaterTreated => Shape::Wastewater,
-            Kind::HeatBought(heat) => heat.shape(),
-            Kind::HeatSold(heat) => heat.shape(),
+            Kind::HeatBought(heat) | Kind::HeatSold(heat) => heat.shape(),
         }
     }
 }

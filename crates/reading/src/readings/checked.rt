@@ -6,7 +6,7 @@ ghost use Rattle.reading.specs.Quantity.{quantities_of, wholes_of, Rounded};
 
 use super::Readings;
 use crate::fault::ReadingFault;
-use crate::limits::{AMOUNT, CELSIUS, COD, CUBIC_METRES, KILOPASCALS, first_unlawful, quantity};
+use crate::limits::{AMOUNT, CELSIUS, COD, CUBIC_METRES, KILOPASCALS, first_unlawful};
 use crate::sets::{Quantities, ReadingSet, SteamQuantities, WastewaterQuantities, WaterQuantities};
 
 impl Readings {
@@ -14,6 +14,7 @@ impl Readings {
     pub fn new(set: ReadingSet) -> Result<Readings, ReadingFault>
         ensures { said (λ x. x.set) refusal_of result ≡ checked_set set }
     {
+        // A match and no `map_or`, which would make the readings before it is known that they are lawful.
         match first_unlawful(set) {
             Some(index) => Err(ReadingFault::Unlawful { index }),
             None => Ok(Readings { set }),
@@ -32,21 +33,21 @@ impl Readings {
         ensures rounded { Rounded (readings_of self.set) (wholes_of result) }
     {
         match self.set {
-            ReadingSet::Amount(x) => Quantities::Amount(quantity(x, AMOUNT)),
+            ReadingSet::Amount(x) => Quantities::Amount(AMOUNT.quantity(x)),
             ReadingSet::Water(w) => Quantities::Water(WaterQuantities {
-                kilograms: quantity(w.kilograms, AMOUNT),
-                hundredths: quantity(w.celsius, CELSIUS),
+                kilograms: AMOUNT.quantity(w.kilograms),
+                hundredths: CELSIUS.quantity(w.celsius),
             }),
             ReadingSet::Steam(s) => Quantities::Steam(SteamQuantities {
-                kilograms: quantity(s.kilograms, AMOUNT),
-                kilopascals: quantity(s.kilopascals, KILOPASCALS),
+                kilograms: AMOUNT.quantity(s.kilograms),
+                kilopascals: KILOPASCALS.quantity(s.kilopascals),
             }),
             ReadingSet::Wastewater(w) => Quantities::Wastewater(WastewaterQuantities {
-                cubic_metres: quantity(w.cubic_metres, CUBIC_METRES),
-                inlet: quantity(w.inlet, COD),
-                outlet: quantity(w.outlet, COD),
-                sludge: quantity(w.sludge, AMOUNT),
-                recovered: quantity(w.recovered, AMOUNT),
+                cubic_metres: CUBIC_METRES.quantity(w.cubic_metres),
+                inlet: COD.quantity(w.inlet),
+                outlet: COD.quantity(w.outlet),
+                sludge: AMOUNT.quantity(w.sludge),
+                recovered: AMOUNT.quantity(w.recovered),
             }),
         }
     }

@@ -1,10 +1,9 @@
-ghost use Rattle.std.specs.Prelude.{◌≡◌, cond, T, Ok, Err};
-ghost use Rattle.reading.specs.Layout.{shape_of};
+ghost use Rattle.std.specs.Prelude.{◌≡◌};
 ghost use Rattle.refusal.specs.Said.{said};
 ghost use Rattle.record.specs.Faults.{refusal_of};
 ghost use Rattle.kind.specs.Kinds.{numbers_of};
 ghost use Rattle.record.specs.Records.{completed};
-ghost use Rattle.record.specs.Rules.{same_shape, share_lawful};
+ghost use Rattle.record.specs.Rules.{share_lawful};
 ghost use Rattle.kind.specs.Tiers.{letter_of};
 ghost use Rattle.record.specs.Views.{head_of, raw_of};
 
@@ -14,22 +13,10 @@ use crate::heading::Heading;
 use crate::raw::RawRecord;
 use calendar::Day;
 use kind::{Kind, Tier};
-use reading::{ReadingFault, ReadingSet, Readings, Shape};
+use reading::{ReadingFault, ReadingSet, Readings};
 
 // Most thousandths that a share can have.
 const WHOLE: u16 = 1000;
-
-fn is_of_shape(set: ReadingSet, shape: Shape) -> bool
-    ensures { result ≡ same_shape (shape_of set) shape }
-{
-    match (shape, set) {
-        (Shape::Amount, ReadingSet::Amount(_)) => true,
-        (Shape::Water, ReadingSet::Water(_)) => true,
-        (Shape::Steam, ReadingSet::Steam(_)) => true,
-        (Shape::Wastewater, ReadingSet::Wastewater(_)) => true,
-        _ => false,
-    }
-}
 
 fn share_fits(kind: Kind, share: Option<u16>) -> bool
     ensures { result ≡ share_lawful (numbers_of kind).0 share }
@@ -52,8 +39,8 @@ impl Record {
     ) -> Result<Record, RecordFault>
         ensures { said raw_of refusal_of result ≡ completed (head_of heading) set share }
     {
-        if !is_of_shape(set, heading.kind.shape()) {
-            return Err(RecordFault::Readings(ReadingFault::SetWrong));
+        if set.shape() != heading.kind.shape() {
+            return Err(ReadingFault::SetWrong.into());
         }
         let readings = Readings::new(set)?;
         if !share_fits(heading.kind, share) {
@@ -109,7 +96,7 @@ impl Record {
             day: self.day.number(),
             kind: self.kind.number(),
             item: self.kind.item(),
-            tier: self.tier.letter(),
+            tier: self.tier.into(),
             share: self.share,
             readings: self.readings.set(),
         }

@@ -1,6 +1,6 @@
 use Rattle.std.proofs.Common.{refl}
-use Rattle.factor.proofs.FirstRow.{answer_is_first, first_answers, no_answer, none_answers, rows_limited}
-use Rattle.factor.proofs.TableLimits.{printed_limited}
+use Rattle.factor.proofs.FirstRow.{answer_is_first, first_answers, no_answer, none_answers}
+use Rattle.factor.specs.Limited.{rows_limited, printed_limited}
 use Rattle.factor.proofs.stands.factors_stand.Goals as goal
 
 pub returns : goal.returns

@@ -18,17 +18,17 @@ returns-in_err-lawful c =
     let w = write_unlawful c.args.raw c.args.name.now c.args.out.now _ c.in_ok-check_name.ensures c.in_err-lawful.ensures in
     rw (p.1, p.2) (record { answers = w.0; leaves = w.1; held = tt })
 
-pub returns-in_err-length : goal.returns-in_err-length
-returns-in_err-length c =
-    let p = err_from_is_err_and c.from_residual-in_err-length.result c.from_residual-in_err-length.ensures.1 in
-    let e = c.in_err-length.ensures in
+pub returns-in_err-put : goal.returns-in_err-put
+returns-in_err-put c =
+    let p = err_from_is_err_and c.from_residual-in_err-put.result c.from_residual-in_err-put.ensures.1 in
+    let e = c.in_err-put.ensures in
     let w = write_put c.args.raw (raw_of c.in_ok-lawful.lawful) c.args.name.now c.args.out.now _ c.put.new.out
     c.in_ok-check_name.ensures c.in_ok-lawful.ensures e.answers e.leaves in
     rw (p.1, p.2) (record { answers = w.0; leaves = w.1; held = tt })
 
 pub returns : goal.returns
 returns c =
-    let e = c.in_ok-length.ensures in
+    let e = c.in_ok-put.ensures in
     let w = write_put c.args.raw (raw_of c.in_ok-lawful.lawful) c.args.name.now c.args.out.now _ c.put.new.out
     c.in_ok-check_name.ensures c.in_ok-lawful.ensures e.answers e.leaves in
     record { answers = w.0; leaves = w.1; held = subst (λ x. Held x.readings) (passed c.args.raw (raw_of c.in_ok-lawful.lawful) c.in_ok-lawful.ensures).0 e.held }

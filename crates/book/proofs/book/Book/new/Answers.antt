@@ -6,4 +6,4 @@ use Rattle.book.proofs.book.Book.new.Goals as goal
 pub invariant_of-result : goal.invariant_of-result
 invariant_of-result c =
     let e = c.new-2.ensures in
-    record { sound = ∣ sound_new c.args.year.number (usable c.args.memory.now) _ (record { year = refl; room = ap usable e.0; months = c.new.ensures; used = e.1.0 }) ∣₁ }
+    record { sound = ∣ sound_new c.args.year.number (usable c.args.memory.now) _ (record { year = refl; room = ap usable e.rows; months = c.new.ensures; used = e.count }) ∣₁ }

@@ -4,8 +4,8 @@ use Rattle.book.specs.Views.{contents_of}
 use Rattle.book.proofs.Held.{sound}
 use Rattle.book.proofs.book.Book.year_line.Goals as goal
 
-pub returns-in-Some : goal.returns-in-Some
-returns-in-Some c = record { reads = search rules; told = year_line_told (contents_of c.args.self.now) (sound c.args.self.now) c.args.line _ (search rules); fault = search rules }
+pub returns-in_err-try_from-clause-told : goal.returns-in_err-try_from-clause-told
+returns-in_err-try_from-clause-told c = year_line_told (contents_of c.args.self.now) (sound c.args.self.now) c.args.line _ (search rules)
 
-pub returns-in-None : goal.returns-in-None
-returns-in-None c = record { reads = search rules; told = year_line_told (contents_of c.args.self.now) (sound c.args.self.now) c.args.line _ (search rules); fault = search rules }
+pub returns-clause-told : goal.returns-clause-told
+returns-clause-told c = year_line_told (contents_of c.args.self.now) (sound c.args.self.now) c.args.line _ (search rules)

@@ -1,11 +1,5 @@
-use Rattle.reading.proofs.Kept.{rounded, amount_counts, water_counts, steam_counts, wastewater_counts}
+use Rattle.reading.proofs.Kept.{rounded, water_counts, steam_counts, wastewater_counts}
 use Rattle.reading.proofs.readings.Readings.quantities.Goals as goal
-
-pub returns-in-Amount : goal.returns-in-Amount
-returns-in-Amount c =
-    let set = c.args.self.set in
-    let value = amount_counts set c.args.self.lawful c.in-Amount.x c.quantity.result c.in-Amount.is c.quantity.ensures in
-    record { value = value; rounded = rounded set _ value }
 
 pub returns-in-Water : goal.returns-in-Water
 returns-in-Water c =

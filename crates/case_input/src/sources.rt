@@ -1,0 +1,51 @@
+ghost use Rattle.std.specs.Prelude.{◌≡◌};
+ghost use Rattle.factor.specs.Limited.{rows_limited, printed_limited, either_limited};
+ghost use Rattle.factor.specs.Questions.{asked_of};
+ghost use Rattle.case_input.specs.Sources.{mode_of, picked, picked_limited};
+
+use factor::{Factor, Pair, PlantList, Printed, Question, Source};
+
+// Which source answers: the plant's list, the printed table, both by tier, or none.
+#[derive(Clone, Copy, PartialEq, Eq, Debug)]
+pub enum Mode {
+    Listed,
+    Printed,
+    Both,
+    Neither,
+}
+
+impl From<u8> for Mode {
+    ghost from_gives = { λ n m. m ≡ mode_of n };
+
+    fn from(number: u8) -> Mode {
+        match number {
+            0 => Mode::Listed,
+            1 => Mode::Printed,
+            2 => Mode::Both,
+            _ => Mode::Neither,
+        }
+    }
+}
+
+// A plant list beside the printed table, and which of them is asked.
+#[derive(Drop)]
+pub struct Sources<'m> {
+    pub pair: Pair<PlantList<'m>, Printed>,
+    pub mode: Mode,
+}
+
+impl<'m> Source for Sources<'m> {
+    ghost table = { λ s. picked s.mode (⟦<PlantList<'m> as Source>⟧.table s.pair.measured) (⟦<Printed as Source>⟧.table s.pair.default) (⟦<Pair<PlantList<'m>, Printed> as Source>⟧.table s.pair) };
+
+    ghost limits = { λ s q. picked_limited s.mode _ _ _ (asked_of q).class _ (rows_limited (asked_of q) _) (printed_limited (asked_of q)) (either_limited (asked_of q).class _ _ _ (rows_limited (asked_of q) _) (printed_limited (asked_of q))) };
+
+    fn ask(&mut self, question: Question) -> Option<Factor> {
+        // A match and no dyn source: the table has to say which is asked.
+        match self.mode {
+            Mode::Listed => self.pair.measured.ask(question),
+            Mode::Printed => self.pair.default.ask(question),
+            Mode::Both => self.pair.ask(question),
+            Mode::Neither => None,
+        }
+    }
+}
