@@ -3,7 +3,7 @@ use journal::Booked;
 use months::Figure;
 use std::fmt;
 
-// What a call is answered.
+// What a call is answered, with the numbers that it named, to be printed.
 #[derive(Drop)]
 pub enum Told {
     Row(usize),

@@ -7,7 +7,7 @@ use crate::fault::FrameFault;
 use crate::tag::Tag;
 use std::slice;
 
-// A field of a frame: its tag and the part of the frame that holds its bytes.
+// A field of a frame: its tag and the part of the frame that holds its bytes; that they fit the tag, no ghost field can say of an enum.
 #[derive(Clone, Copy)]
 pub enum Field<'f> {
     When(&'f [u8; 4]),

@@ -1,5 +1,5 @@
 // A log of frames: a year in two bytes, then frames, each after its length in two bytes, high bytes first.
-// Its frames are counted by whether they read as lawful records of that year.
+// Its frames are handed to what takes or refuses them, and counted; one taker takes lawful records of that year.
 #![tactic(auto)]
 
 mod heading;
@@ -10,7 +10,7 @@ ghost use Rattle.std.specs.Prelude.{◌≡◌, MatchOption};
 ghost use Rattle.frame_log.specs.Log.{taken_by, Counted};
 
 use calendar::Year;
-pub use heading::{frames_of, year_of};
+pub use heading::year_and_frames;
 pub use laws::logs_stand;
 use record::read;
 pub use walk::{Counts, Next, Taker, next_frame, tally};
@@ -34,8 +34,8 @@ impl Taker for OfYear {
 pub fn count(log: &[u8]) -> Option<(Year, Counts)>
     ensures { MatchOption result (Counted log.now 0 0 0) (λ c. Counted log.now c.0.number c.1.taken c.1.refused) }
 {
-    let year = year_of(log)?;
-    let counts = tally(frames_of(log), &mut OfYear { year });
+    let (year, frames) = year_and_frames(log)?;
+    let counts = tally(frames, &mut OfYear { year });
     Some((year, counts))
 }
 

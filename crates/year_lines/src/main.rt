@@ -5,7 +5,7 @@
 mod tonnes;
 
 use book::Book;
-use book_log::{frames_of, offer_frames, year_of};
+use book_log::{offer_frames, year_and_frames};
 use calendar::Year;
 use factor::{Pair, PlantList, Printed};
 use journal::JournalEntry;
@@ -46,8 +46,8 @@ fn print_year(rt: &HostRuntime, year: Year, frames: &[u8]) -> anyhow::Result<()>
 fn main(rt: HostRuntime) -> anyhow::Result<()> {
     let mut log = Vec::new(rt.alloc());
     rt.stdin().read_to_end(&mut log)?;
-    match year_of(log.as_slice()) {
-        Some(year) => print_year(&rt, year, frames_of(log.as_slice())),
+    match year_and_frames(log.as_slice()) {
+        Some((year, frames)) => print_year(&rt, year, frames),
         None => {
             rt.println("0 0 0")?;
             Ok(())
