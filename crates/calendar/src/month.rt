@@ -72,6 +72,7 @@ impl Month {
         }
     }
 
+    // A word for the number, where `u8::from` would give none.
     pub fn number(self) -> u8
         ensures { result ≡ self.number }
     {

@@ -34,6 +34,7 @@ impl TryFrom<u16> for Year {
 }
 
 impl Year {
+    // A word for the number, where `u16::from` would give none.
     pub fn number(self) -> u16
         ensures { result ≡ self.number }
     {

@@ -39,6 +39,7 @@ fn put_copy(out: &mut String, frame: &[u8]) -> anyhow::Result<()> {
 pub fn frame_case(heap: Global, input: &mut Input<'_>) -> anyhow::Result<String> {
     let frame = input.frame()?;
     let mut out = String::new(heap);
+    // A match for each part, since each ends with an answer or a refusal of its own.
     match name(frame) {
         Ok(name) => write!(out, "name {}", Hex(name))?,
         Err(fault) => write!(out, "{}", Refusal::from(fault))?,

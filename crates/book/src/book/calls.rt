@@ -20,6 +20,7 @@ use rows::Rows;
 // Most entries that a journal takes, however long its memory is.
 const MOST_ENTRIES: usize = 60_000;
 
+// `step` and `follows` speak of a call and not of a value, so that no type can hold them.
 impl<'m> Book<'m> {
     // A new year: every month open, no entry. Of the memory the first 60,000 rows are used, or all if there are fewer.
     pub fn new(year: Year, memory: &'m mut [JournalEntry]) -> Book<'m>

@@ -27,7 +27,7 @@ impl Readings {
         self.set
     }
 
-    // The nearest whole number to each reading, a temperature in hundredths.
+    // The nearest whole number to each reading, a temperature in hundredths: the limits of `first_unlawful`, in structs of their own.
     pub fn quantities(self) -> Quantities
         ensures value { result ≡ quantities_of self.set }
         ensures rounded { Rounded (readings_of self.set) (wholes_of result) }
