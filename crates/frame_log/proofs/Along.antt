@@ -1,5 +1,5 @@
 -- What handing the frames of a log to a taker keeps. Assumes nothing.
-use Rattle.std.proofs.Common.{◌≡◌, ℕ, ◌+◌, ◌<◌, ◌≤◌, Bool, true, false, cond, List, [], ◌∷◌, ◌++◌, length, sym, refl, ap, ◌∙◌, arith}
+use Rattle.std.proofs.Common.{◌≡◌, ◌≢◌, ℕ, ◌+◌, ◌<◌, ◌≤◌, Bool, true, false, cond, List, [], ◌∷◌, ◌++◌, length, sym, refl, ap, ◌∙◌, arith}
 use Rattle.std.proofs.lemmas.List.{append_assoc, append-nil, length-append}
 use Rattle.std.proofs.lemmas.Fn.{FoldsTo-push}
 use Rattle.std.proofs.ByRecursion.{All-push}
@@ -20,11 +20,20 @@ pub record Along {F : Type 0} (g : F → List ℕ → Bool → F → Type 0) (by
   pub counted : taken + refused ≡ length frames
   pub room : taken + refused + length rest ≤ length bytes
 
+-- on the way, or at the end, where a frame is cut off
+pub data Walk {F : Type 0} (g : F → List ℕ → Bool → F → Type 0) (bytes : List ℕ) (before : F) (taken refused : ℕ) (after : F) (rest : List ℕ) : Type 0 where
+  going : Along g bytes before taken refused after rest → Walk g bytes before taken refused after rest
+  cut : Tallied g bytes before taken refused after → rest ≡ [] → Walk g bytes before taken refused after rest
+
+cut_some : (rest : List ℕ) → rest ≢ [] → cut_count rest ≡ 1
+cut_some [] n = absurd (n refl)
+cut_some (b ∷ bs) n = refl
+
 pub along_none : {F : Type 0} {g : F → List ℕ → Bool → F → Type 0} {bytes : List ℕ} {f : F} → Along g bytes f 0 0 f bytes
 along_none = record { frames = []; is = refl; short = tt; calls = refl; counted = refl; room = omega arith }
 
 module _ {F : Type 0} {g : F → List ℕ → Bool → F → Type 0} {bytes : List ℕ} {before after : F} {taken refused : ℕ} {rest : List ℕ} (w : Along g bytes before taken refused after rest) where
-  pub along_more : {frame more : List ℕ} {next : F} {taken' refused' : ℕ} (b : Bool) → framed frame ++ more ≡ rest → length frame < 65536 → g after frame b next
+  along_more : {frame more : List ℕ} {next : F} {taken' refused' : ℕ} (b : Bool) → framed frame ++ more ≡ rest → length frame < 65536 → g after frame b next
       → taken' ≡ taken + cond b 1 0 → refused' ≡ refused + cond b 0 1 → Along g bytes before taken' refused' next more
   along_more {frame = frame} {more = more} {next = next} {taken' = taken'} {refused' = refused'} b e s o p q = record {
     frames = w.frames ++ frame ∷ [];
@@ -42,7 +51,7 @@ module _ {F : Type 0} {g : F → List ℕ → Bool → F → Type 0} {bytes : Li
       longer : length rest ≡ 2 + length frame + length more
       longer = sym (ap length e) ∙ simp length-append (omega arith)
 
-  pub along_all : {refused' : ℕ} → Ended rest → refused' ≡ refused + cut_count rest → Tallied g bytes before taken refused' after
+  along_all : {refused' : ℕ} → Ended rest → refused' ≡ refused + cut_count rest → Tallied g bytes before taken refused' after
   along_all e r = record {
     frames = w.frames;
     rest = rest;
@@ -51,10 +60,17 @@ module _ {F : Type 0} {g : F → List ℕ → Bool → F → Type 0} {bytes : Li
     counted = omega (arith, r, w.counted);
   }
 
-pub cut_none : (rest : List ℕ) → length rest ≡ 0 → cut_count rest ≡ 0
-cut_none [] h = refl
-cut_none (b ∷ bs) h = absurd (omega arith)
+  along_cut : {refused' : ℕ} {more : List ℕ} → (rest ≢ []) → Ended rest → more ≡ [] → refused' ≡ refused + 1 → Walk g bytes before taken refused' after more
+  along_cut {refused' = refused'} n e m r = cut (along_all e (r ∙ ap (λ k. refused + k) (sym (cut_some rest n)))) m
 
-pub cut_some : (rest : List ℕ) → (length rest ≡ 0 → ⊥) → cut_count rest ≡ 1
-cut_some [] h = absurd (h refl)
-cut_some (b ∷ bs) h = refl
+module _ {F : Type 0} {g : F → List ℕ → Bool → F → Type 0} {bytes : List ℕ} {before after : F} {taken refused : ℕ} {rest : List ℕ} where
+  pub walk_more : {frame more : List ℕ} {next : F} {taken' refused' : ℕ} → Walk g bytes before taken refused after rest → (b : Bool)
+      → framed frame ++ more ≡ rest → length frame < 65536 → g after frame b next
+      → taken' ≡ taken + cond b 1 0 → refused' ≡ refused + cond b 0 1 → Walk g bytes before taken' refused' next more
+  walk_more (going w) b e s o p q = going (along_more w b e s o p q)
+  walk_more (cut t z) b e s o p q = absurd (omega (arith, ap length (e ∙ z)))
+
+  pub walk_cut : {refused' : ℕ} {more : List ℕ} → Walk g bytes before taken refused after rest → rest ≢ [] → Ended rest → more ≡ [] → refused' ≡ refused + 1
+      → Walk g bytes before taken refused' after more
+  walk_cut (going w) n e m r = along_cut w n e m r
+  walk_cut (cut t z) n e m r = absurd (n z)

@@ -1,10 +1,13 @@
 -- What a log spells, and what its counts are.
-use Rattle.std.specs.Prelude.{◌≡◌, ℕ, ◌+◌, ◌<◌, ◌≤◌, Bool, true, false, cond, List, [], ◌∷◌, ◌++◌, length, drop, Ok, Err, Result, ◌==◌}
+use Rattle.std.specs.Prelude.{◌≡◌, ◌≢◌, ℕ, ◌+◌, ◌<◌, ◌≤◌, Bool, true, false, cond, List, [], ◌∷◌, ◌++◌, length, drop, Some, None, Ok, Err, Option, Result, ◌==◌}
+use Rattle.std.specs.Borrow.{Bor}
 use Rattle.std.specs.List.{AllByRecursion, FoldsTo}
 use Rattle.refusal.specs.declared.Refusal.{Refusal}
 use Rattle.calendar.specs.Calendar.{year_lawful}
 use Rattle.frame.specs.Format.{word}
 use Rattle.record.specs.declared.raw.RawRecord.{RawRecord}
+use Rattle.frame_log.specs.declared.frames.CutOff.{CutOff}
+use Rattle.frame_log.specs.declared.frames.Frames.{Frames}
 use Rattle.record.specs.Records.{two_bytes, record_in}
 
 -- a frame after its length
@@ -20,6 +23,16 @@ pub data Ended (rest : List ℕ) : Type 0 where
   all_read : length rest ≡ 0 → Ended rest
   length_cut : length rest ≡ 1 → Ended rest
   frame_cut : 2 ≤ length rest → length rest < 2 + word rest 0 → Ended rest
+
+-- the bytes that frames are still to be read from
+abbrev pub left_of : Frames → List ℕ
+left_of frames = frames.rest.now
+
+-- nothing at the end, and before it a frame, or a frame that is cut off, after which nothing comes
+abbrev pub Gives : Frames → Option (Result (Bor (List ℕ)) CutOff) → Frames → Type 0
+Gives before None after = (left_of before ≡ []) × (left_of after ≡ [])
+Gives before (Some (Ok frame)) after = (framed frame.now ++ left_of after ≡ left_of before) × (length frame.now < 65536)
+Gives before (Some (Err fault)) after = (left_of before ≢ []) × Ended (left_of before) × (left_of after ≡ [])
 
 -- the bytes are these frames, and then an end
 pub record Spells (bytes : List ℕ) (frames : List (List ℕ)) (rest : List ℕ) : Type 0 where

@@ -2,6 +2,7 @@
 // Its frames are handed to what takes or refuses them, and counted; one taker takes lawful records of that year.
 #![tactic(auto)]
 
+mod frames;
 mod heading;
 mod laws;
 mod walk;
@@ -10,10 +11,11 @@ ghost use Rattle.std.specs.Prelude.{◌≡◌, MatchOption};
 ghost use Rattle.frame_log.specs.Log.{taken_by, Counted};
 
 use calendar::Year;
+pub use frames::{CutOff, Frames};
 pub use heading::year_and_frames;
 pub use laws::logs_stand;
 use record::read;
-pub use walk::{Counts, Next, Taker, next_frame, tally};
+pub use walk::{Counts, Taker, tally};
 
 // Takes the frames that read as lawful records of a year.
 #[derive(Drop)]

@@ -2,6 +2,7 @@ ghost use Rattle.std.specs.Prelude.{◌≡◌, ℕ, ◌<◌, Bool, List, ◌++�
 ghost use Rattle.std.specs.Fmt.{decimal};
 ghost use Rattle.frame_log.specs.Log.{framed, Ended, Tallied};
 
+use crate::frames::{CutOff, Frames};
 use std::fmt;
 
 // How many frames of a log were taken and how many refused.
@@ -19,24 +20,6 @@ impl fmt::Display for Counts {
     }
 }
 
-// A frame of the log, and what follows it.
-#[derive(Clone, Copy)]
-pub struct Next<'l> {
-    pub frame: &'l [u8],
-    pub rest: &'l [u8],
-}
-
-// The first frame, unless the log has ended or is cut off.
-pub fn next_frame<'l>(log: &'l [u8]) -> Option<Next<'l>>
-    ensures { MatchOption result (Ended log.now) (λ n. (framed n.frame.now ++ n.rest.now ≡ log.now) × (length n.frame.now < 65536)) }
-{
-    let [high, low, rest @ ..] = log else {
-        return None;
-    };
-    let (frame, rest) = rest.split_at_checked(usize::from(u16::from_be_bytes([*high, *low])))?;
-    Some(Next { frame, rest })
-}
-
 // What takes or refuses frames: a trait, since no public call has a condition, and a call of a closure has one.
 pub trait Taker {
     // What a frame may be answered, and what the taker then is.
@@ -52,18 +35,16 @@ pub fn tally<T: Taker>(frames: &[u8], taker: &mut T) -> Counts
 {
     let mut taken = 0;
     let mut refused = 0;
-    let mut rest = frames;
-    // No iterator: what is left when the frames end says whether the end cut one off.
-    while let Some(next) = next_frame(rest) {
-        if taker.takes(next.frame) {
+    for frame in Frames::new(frames) {
+        let is_taken = match frame {
+            Ok(frame) => taker.takes(frame),
+            Err(CutOff) => false,
+        };
+        if is_taken {
             taken += 1;
         } else {
             refused += 1;
         }
-        rest = next.rest;
-    }
-    if !rest.is_empty() {
-        refused += 1;
     }
     Counts { taken, refused }
 }

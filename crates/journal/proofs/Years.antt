@@ -1,5 +1,5 @@
 -- A line's months added one after another. Assumes nothing.
-use Rattle.std.proofs.Common.{◌≡◌, ℕ, zero, suc, ◌+◌, ◌-◌, ◌*◌, ◌^◌, ◌<◌, ◌≤◌, List, [], ◌∷◌, map, get_or, take, pos, ◌-ℤ◌, Ok, sum_by, refl, sym, ap, ◌∙◌, ap₂, arith, w64, SFits, to_z, of_z}
+use Rattle.std.proofs.Common.{◌≡◌, ℕ, zero, suc, ◌+◌, ◌*◌, ◌^◌, ◌<◌, ◌≤◌, List, [], ◌∷◌, map, get_or, take, pos, ◌-ℤ◌, Ok, sum_by, refl, sym, ap, ◌∙◌, ap₂, arith, w64, SFits, to_z, of_z}
 use Rattle.std.proofs.Math.ListN.{get_or-map}
 use Rattle.std.proofs.lemmas.Grind.{get_or_default_zero}
 use Rattle.std.proofs.lemmas.List.Sums.{sum_by_more, sum_by-take-le}

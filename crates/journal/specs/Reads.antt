@@ -1,5 +1,5 @@
 -- What the readers give of the months that a book holds.
-use Rattle.std.specs.Prelude.{ℕ, cond, ◌&&◌, List, [], ◌∷◌, ℤ, pos, ◌-ℤ◌, Ok, Err, sum_by, Result, nat_le}
+use Rattle.std.specs.Prelude.{ℕ, cond, ◌&&◌, [], ◌∷◌, ℤ, pos, ◌-ℤ◌, Ok, Err, sum_by, Result, nat_le}
 use Rattle.refusal.specs.declared.Layer.TheVariants.{Book}
 use Rattle.refusal.specs.declared.Refusal.{Refusal}
 use Rattle.refusal.specs.Said.{refusal}

@@ -1,16 +1,24 @@
-use Rattle.std.proofs.Common.{◌≡◌, ◌+◌, cond, arith}
-use Rattle.frame_log.proofs.Along.{along_more}
+use Rattle.std.proofs.Common.{sym, refl, ◌∙◌, arith}
+use Rattle.frame_log.proofs.Along.{walk_more, walk_cut}
 use Rattle.frame_log.proofs.walk.tally.Goals as goal
-use Rattle.frame_log.proofs.walk.tally.Goals.{then-takes, else-takes}
+use Rattle.frame_log.proofs.walk.tally.Goals.{in-Ok, in-Err}
 
-pub loop-next-preserved : goal.loop-next-preserved
-loop-next-preserved g c =
-    let i = c.loop-next.invariant in
-    let e = c.in-Some.ensures in
-    let r = c.takes.result in
-    let counts : (c.if-takes.taken ≡ c.loop-next.taken + cond r 1 0) × (c.if-takes.refused ≡ c.loop-next.refused + cond r 0 1) =
-    elim c.if-takes.branch [
-      | then-takes w ↦ simp w.if-takes.true (omega (arith, w.taken-is), omega (arith, w.refused-is))
-      | else-takes w ↦ simp w.if-takes.false (omega (arith, w.taken-is), omega (arith, w.refused-is))
-    ] in
-    along_more i r e.0 e.1 c.takes.ensures counts.0 counts.1
+pub loop-frame-preserved-then-is_taken : goal.loop-frame-preserved-then-is_taken
+loop-frame-preserved-then-is_taken g c = elim c.match-frame.branch [
+  | in-Ok w ↦
+      let s = rw w.in-Ok.is at c.in-Some.ensures.steps in
+      let h = sym w.is_taken-is ∙ c.if-is_taken.true in
+      rw w.taker-is (walk_more c.loop-frame.invariant w.takes-is_taken.result s.0 s.1 w.takes-is_taken.ensures (rw h (omega arith)) (rw h (omega arith)))
+  | in-Err w ↦ (let h = sym w.is_taken-is ∙ c.if-is_taken.true in cc)
+]
+
+pub loop-frame-preserved : goal.loop-frame-preserved
+loop-frame-preserved g c = elim c.match-frame.branch [
+  | in-Ok w ↦
+      let s = rw w.in-Ok.is at c.in-Some.ensures.steps in
+      let h = sym w.is_taken-is ∙ c.if-is_taken.false in
+      rw w.taker-is (walk_more c.loop-frame.invariant w.takes-is_taken.result s.0 s.1 w.takes-is_taken.ensures (rw h (omega arith)) (rw h (omega arith)))
+  | in-Err w ↦
+      let s = rw w.in-Err.is at c.in-Some.ensures.steps in
+      rw w.taker-is (walk_cut c.loop-frame.invariant s.0 s.1 s.2 refl)
+]

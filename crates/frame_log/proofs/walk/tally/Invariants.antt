@@ -1,9 +1,6 @@
-use Rattle.std.proofs.Common.{length}
-use Rattle.frame_log.proofs.Along.{Along}
+use Rattle.frame_log.specs.Log.{left_of}
+use Rattle.frame_log.proofs.Along.{Walk}
 use Rattle.frame_log.proofs.walk.tally.Given as goal
 
-abbrev pub invariant-loop-next : goal.invariant-loop-next
-invariant-loop-next g l = Along g.T.Taker.answers l.frames l.initial.taker l.taken l.refused l.taker l.rest
-
-abbrev pub decreases-loop-next : goal.decreases-loop-next
-decreases-loop-next g l = length l.rest
+abbrev pub invariant-loop-frame : goal.invariant-loop-frame
+invariant-loop-frame g l = Walk g.T.Taker.answers l.frames l.initial.taker l.taken l.refused l.taker (left_of l.frame-iterator)

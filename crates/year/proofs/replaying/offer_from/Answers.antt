@@ -1,9 +1,9 @@
-use Rattle.std.proofs.Common.{sym, refl, subst}
+use Rattle.std.proofs.Common.{sym, subst}
 use Rattle.emission.specs.Entries.{Table}
 use Rattle.journal.specs.Calls.{offer}
 use Rattle.book.specs.Views.{contents_of}
 use Rattle.year.specs.Replayed.{Called}
-use Rattle.year.proofs.Replays.{tables_same, table_at, table_past}
+use Rattle.year.proofs.Replays.{tables_same, table_at}
 use Rattle.year.proofs.replaying.offer_from.Goals as goal
 
 pub returns-then-at-sources : goal.returns-then-at-sources
@@ -15,13 +15,4 @@ returns-then-at-sources g c =
       called = subst (λ (t : Table). Called (offer c.args.frame.now t) (contents_of c.args.book.now) (contents_of c.offer.new.self)) (sym e) (record { answer = _; step = c.offer.ensures.step });
       tables = tables_same f xs c.args.at c.index-sources-at.result c.offer.new.source c.if-at-sources.true c.offer.ensures.same;
       memory = c.offer.ensures.memory;
-    }
-
-pub returns-else-at-sources : goal.returns-else-at-sources
-returns-else-at-sources g c =
-    let e = table_past g.S.Source.table c.args.sources.now c.args.at c.if-at-sources.false in
-    record {
-      called = subst (λ (t : Table). Called (offer c.args.frame.now t) (contents_of c.args.book.now) (contents_of c.offer-else-at-sources.new.self)) (sym e) (record { answer = _; step = c.offer-else-at-sources.ensures.step });
-      tables = refl;
-      memory = c.offer-else-at-sources.ensures.memory;
     }

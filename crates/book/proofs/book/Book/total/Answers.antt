@@ -1,21 +1,8 @@
-use Rattle.std.proofs.Common.{arith}
-use Rattle.std.proofs.lemmas.Int.{ints}
 use Rattle.journal.proofs.Runs.{total_told}
 use Rattle.book.specs.Views.{contents_of}
 use Rattle.book.proofs.Held.{sound}
 use Rattle.journal.proofs.Years.{total_counts, total_nets}
 use Rattle.book.proofs.book.Book.total.Goals as goal
-
-pub overflow_sub-result : goal.overflow_sub-result
-overflow_sub-result c =
-    let fuel = c.year_figure-fuel.ensures.light in
-    let carbonate = c.year_figure-carbonate.ensures.light in
-    let wastewater = c.year_figure-wastewater.ensures.light in
-    let power = c.year_figure-power_bought.ensures.light in
-    let heat = c.year_figure-heat_bought.ensures.light in
-    let power-sold = c.year_figure-power_sold.ensures.light in
-    let heat-sold = c.year_figure-heat_sold.ensures.light in
-    omega (arith, ints)
 
 pub returns : goal.returns
 returns c =

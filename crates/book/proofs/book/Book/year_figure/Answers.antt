@@ -1,4 +1,4 @@
-use Rattle.std.proofs.Common.{◌≡◌, ◌+◌, get_or, arith}
+use Rattle.std.proofs.Common.{◌≡◌, ◌+◌, arith}
 use Rattle.months.specs.Lines.{line_number}
 use Rattle.journal.proofs.Years.{numbered, count_most, grams_most, count_more, grams_more, year_is, year_read}
 use Rattle.journal.proofs.Runs.{year_line_told}

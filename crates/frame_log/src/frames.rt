@@ -1,0 +1,53 @@
+ghost use Rattle.std.specs.Prelude.{◌≡◌, ◌<◌, ◌++◌, length, MatchOption};
+ghost use Rattle.frame_log.specs.Log.{framed, Ended};
+
+// The end of a log cuts a frame off: bytes are left, and no whole frame.
+#[derive(Clone, Copy, PartialEq, Eq, Debug)]
+pub struct CutOff;
+
+// The frames of a log one after another, and what its end cuts off as a fault, told once.
+#[derive(Drop)]
+pub struct Frames<'l> {
+    rest: &'l [u8],
+}
+
+impl<'l> Frames<'l> {
+    pub fn new(log: &'l [u8]) -> Frames<'l>
+        ensures { result.rest.now ≡ log.now }
+    {
+        Frames { rest: log }
+    }
+}
+
+// The first frame and what follows it, unless the log has ended or is cut off.
+fn split_frame<'l>(log: &'l [u8]) -> Option<(&'l [u8], &'l [u8])>
+    ensures { MatchOption result (Ended log.now) (λ r. (framed r.0.now ++ r.1.now ≡ log.now) × (length r.0.now < 65536)) }
+{
+    let [high, low, rest @ ..] = log else {
+        return None;
+    };
+    rest.split_at_checked(usize::from(u16::from_be_bytes([*high, *low])))
+}
+
+impl<'l> Iterator for Frames<'l> {
+    type Item = Result<&'l [u8], CutOff>;
+
+    ghost use Rattle.std.specs.Iterator.{at_most};
+    ghost use Rattle.frame_log.specs.Log.{left_of, Gives};
+
+    ghost next_gives = { Gives };
+
+    ghost remaining = { λ frames. at_most (length (left_of frames)) };
+
+    fn next(&mut self) -> Option<Result<&'l [u8], CutOff>> {
+        if self.rest.is_empty() {
+            return None;
+        }
+        let Some((frame, rest)) = split_frame(self.rest) else {
+            self.rest = &[];
+            return Some(Err(CutOff));
+        };
+        self.rest = rest;
+        Some(Ok(frame))
+    }
+}
