@@ -14,8 +14,10 @@ use Rattle.journal.specs.Contents.{Contents, Follows}
 use Rattle.journal.specs.Runs.{Extends}
 use Rattle.journal.proofs.Rules.{ok_not_err}
 use Rattle.journal.proofs.Following.{agrees}
-use Rattle.book.specs.Views.{booked_of}
-use Rattle.book_log.specs.Log.{offerings, Offered}
+use Rattle.book.specs.Views.{booked_of, contents_of}
+use Rattle.frame_log.specs.Log.{Handed}
+use Rattle.book_log.specs.declared.taker.Offering.{Offering}
+use Rattle.book_log.specs.Log.{offerings, Offered, Answered}
 
 offerings_append : (t : Table) (fs gs : List (List ℕ)) (h : List Call) → offerings t (fs ++ gs) h ≡ offerings t gs (offerings t fs h)
 offerings_append t [] gs h = refl
@@ -52,6 +54,30 @@ offered_one {f = f} {t = t} (Err x) g = record {
   follows = λ y n h w. (g y n h w).follows;
   takes = λ y n k h w z. subst (Taken y n (offer f t ∷ h)) (sym (add-zero k)) (err_refused (λ j c. (agrees w).counted j c ∙ sym ((agrees w).counted k z)) (g y n h w).answers);
 }
+
+-- what each frame that is handed over keeps of the book and of the source
+pub record Kept {S : Type 0} (table : S → Table) (p : Offering S × ℕ) (frames : List (List ℕ)) (q : Offering S × ℕ) : Type 0 where
+  pub offered : Offered frames (table p.0.source.now) (contents_of p.0.book.now) q.1 (contents_of q.0.book.now)
+  pub same : table q.0.source.now ≡ table p.0.source.now
+  pub memory : q.0.book.now.journal.rows.ghost_name ≡ p.0.book.now.journal.rows.ghost_name
+  pub book : q.0.book.ghost_name ≡ p.0.book.ghost_name
+  pub source : q.0.source.ghost_name ≡ p.0.source.ghost_name
+
+pub kept_none : {S : Type 0} (table : S → Table) (o : Offering S) → Kept table (o, 0) [] (o, 0)
+kept_none table o = record { offered = offered_none; same = refl; memory = refl; book = refl; source = refl }
+
+pub kept_more : {S : Type 0} (table : S → Table) (p : Offering S × ℕ) (xs : List (List ℕ)) (q : Offering S × ℕ) (x : List ℕ) (v : Offering S × ℕ)
+    → Kept table p xs q → Handed (Answered table) q x v → Kept table p (xs ++ x ∷ []) v
+kept_more table p xs q x v k h =
+    let a = h.1 in
+    let one = subst (λ (t : Table). Offered (x ∷ []) t (contents_of q.0.book.now) (cond h.0 1 0) (contents_of v.0.book.now)) k.same a.offered in
+    record {
+      offered = subst (λ (n : ℕ). Offered (xs ++ x ∷ []) (table p.0.source.now) (contents_of p.0.book.now) n (contents_of v.0.book.now)) (sym h.2) (offered_more k.offered one);
+      same = a.same ∙ k.same;
+      memory = a.memory ∙ k.memory;
+      book = a.book ∙ k.book;
+      source = a.source ∙ k.source;
+    }
 
 -- what holds from the first state on, and after each call, holds after all calls
 pub from_start : {A P : Type 0} (R : P → A → P → Type 0) (J : P → List A → P → Type 0) → ((p : P) (xs : List A) (q : P) (x : A) (v : P) → J p xs q → R q x v → J p (xs ++ x ∷ []) v)

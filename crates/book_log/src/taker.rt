@@ -12,15 +12,9 @@ pub(crate) struct Offering<'b, 'm, S> {
 }
 
 impl<S: Source> Taker for Offering<'_, '_, S> {
-    ghost use Rattle.std.specs.Prelude.{[], ◌∷◌, if◌then◌else◌};
-    ghost use Rattle.book.specs.Views.{contents_of};
-    ghost use Rattle.book_log.specs.Log.{Offered};
+    ghost use Rattle.book_log.specs.Log.{Answered};
 
-    ghost answers = { λ t f b u. Offered (f ∷ []) (S.Source.table t.source.now) (contents_of t.book.now) (if b then 1 else 0) (contents_of u.book.now)
-        × (S.Source.table u.source.now ≡ S.Source.table t.source.now)
-        × (u.book.now.journal.rows.ghost_name ≡ t.book.now.journal.rows.ghost_name)
-        × (u.book.ghost_name ≡ t.book.ghost_name)
-        × (u.source.ghost_name ≡ t.source.ghost_name) };
+    ghost answers = { Answered S.Source.table };
 
     fn takes(&mut self, frame: &[u8]) -> bool {
         self.book.offer(frame, self.source).is_ok()

@@ -1,8 +1,12 @@
 -- Which source a mode picks.
 use Rattle.std.specs.Prelude.{ℕ, cond, None, Option, ◌==◌}
 use Rattle.factor.specs.declared.question.Factor.{Factor}
-use Rattle.factor.specs.Questions.{Asked}
-use Rattle.factor.specs.Limited.{Limited, none_limited}
+use Rattle.rows.specs.Held.{held}
+use Rattle.factor.specs.Questions.{Asked, by_tier}
+use Rattle.factor.specs.PlantRows.{first_fit}
+use Rattle.factor.specs.Printed.{printed_answer}
+use Rattle.factor.specs.Limited.{Limited, none_limited, rows_limited, printed_limited, by_tier_limited}
+use Rattle.case_input.specs.declared.sources.Sources.{Sources}
 use Rattle.case_input.specs.declared.sources.Mode.{Mode}
 use Rattle.case_input.specs.declared.sources.Mode.TheVariants.{Listed, Printed, Both, Neither}
 
@@ -10,16 +14,26 @@ use Rattle.case_input.specs.declared.sources.Mode.TheVariants.{Listed, Printed, 
 abbrev pub mode_of : ℕ → Mode
 mode_of n = cond (n == 0) Listed (cond (n == 1) Printed (cond (n == 2) Both Neither))
 
--- of the tables of the list, of the printed values and of the two by tier, the one that the mode picks
-abbrev pub picked : Mode → (Asked → Option Factor) → (Asked → Option Factor) → (Asked → Option Factor) → Asked → Option Factor
-picked Listed list printed both = list
-picked Printed list printed both = printed
-picked Both list printed both = both
-picked Neither list printed both = λ _. None
+-- the table by which a mode answers, beside a list's table
+abbrev pub picked : Mode → (Asked → Option Factor) → Asked → Option Factor
+picked Listed list = list
+picked Printed list = printed_answer
+picked Both list = by_tier list printed_answer
+picked Neither list = λ _. None
 
--- what is picked is within the limits where all that it is picked from is
-pub picked_limited : (m : Mode) (l p b : Asked → Option Factor) (class : ℕ) (q : Asked) → Limited class (l q) → Limited class (p q) → Limited class (b q) → Limited class (picked m l p b q)
-picked_limited Listed l p b class q x y z = x
-picked_limited Printed l p b class q x y z = y
-picked_limited Both l p b class q x y z = z
-picked_limited Neither l p b class q x y z = none_limited class
+-- the table of the plant's list
+abbrev pub listed : Sources → Asked → Option Factor
+listed s q = first_fit q (held s.pair.measured.list.rows.now s.pair.measured.list.length)
+
+abbrev pub table_of : Sources → Asked → Option Factor
+table_of s = picked s.mode (listed s)
+
+picked_limited : (m : Mode) (list : Asked → Option Factor) (q : Asked) → Limited q.class (list q) → Limited q.class (picked m list q)
+picked_limited Listed list q l = l
+picked_limited Printed list q l = printed_limited q
+picked_limited Both list q l = by_tier_limited q.class list printed_answer q l (printed_limited q)
+picked_limited Neither list q l = none_limited q.class
+
+-- whatever the mode, the table keeps the limits
+pub table_limited : (s : Sources) (q : Asked) → Limited q.class (table_of s q)
+table_limited s q = picked_limited s.mode (listed s) q (rows_limited q _)

@@ -1,7 +1,6 @@
 ghost use Rattle.std.specs.Prelude.{◌≡◌};
-ghost use Rattle.factor.specs.Limited.{rows_limited, printed_limited, either_limited};
 ghost use Rattle.factor.specs.Questions.{asked_of};
-ghost use Rattle.case_input.specs.Sources.{mode_of, picked, picked_limited};
+ghost use Rattle.case_input.specs.Sources.{mode_of, table_of, table_limited};
 
 use factor::{Factor, Pair, PlantList, Printed, Question, Source};
 
@@ -35,9 +34,9 @@ pub struct Sources<'m> {
 }
 
 impl<'m> Source for Sources<'m> {
-    ghost table = { λ s. picked s.mode (⟦<PlantList<'m> as Source>⟧.table s.pair.measured) (⟦<Printed as Source>⟧.table s.pair.default) (⟦<Pair<PlantList<'m>, Printed> as Source>⟧.table s.pair) };
+    ghost table = { table_of };
 
-    ghost limits = { λ s q. picked_limited s.mode _ _ _ (asked_of q).class _ (rows_limited (asked_of q) _) (printed_limited (asked_of q)) (either_limited (asked_of q).class _ _ _ (rows_limited (asked_of q) _) (printed_limited (asked_of q))) };
+    ghost limits = { λ s q. table_limited s (asked_of q) };
 
     fn ask(&mut self, question: Question) -> Option<Factor> {
         // A match and no dyn source: the table has to say which is asked.

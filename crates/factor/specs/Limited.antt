@@ -1,12 +1,12 @@
 -- That what each source's table answers is within the limits: a law of the trait has its proof from here.
-use Rattle.std.proofs.Common.{◌≡◌, ℕ, zero, suc, ◌-◌, ◌<◌, ◌≤◌, Bool, true, false, cond, ◌&&◌, T, eqb, leb, List, [], ◌∷◌, length, get_or, option_map, Some, None, Option, sym, refl, ap, ◌∙◌, subst, inl, inr, le_of_suc-le-suc, not-suc-le-zero, arith, eqb→eq}
+use Rattle.std.proofs.Common.{◌≡◌, ℕ, zero, suc, ◌-◌, ◌<◌, ◌≤◌, Bool, true, false, cond, ◌&&◌, T, eqb, leb, nat_eq, List, [], ◌∷◌, length, get_or, option_map, Some, None, Option, sym, refl, ap, ◌∙◌, subst, inl, inr, le_of_suc-le-suc, not-suc-le-zero, arith, eqb→eq}
 use Rattle.std.specs.List.{find}
 use Rattle.std.proofs.lemmas.Bool.{cases_Bool, and_parts, eqb-true, leb-true}
 use Rattle.std.proofs.lemmas.Option.{none-some}
 use lib.Ieee.Fits.{and_l, and_r}
 use Rattle.factor.specs.declared.plant.PlantRow.{PlantRow}
 use Rattle.factor.specs.declared.question.Factor.{Factor}
-use Rattle.factor.specs.Questions.{Asked}
+use Rattle.factor.specs.Questions.{Asked, by_tier}
 use Rattle.factor.specs.Limits.{keeps, Within}
 use Rattle.factor.specs.PlantRows.{row_factor, row_names, row_holds, row_fits, first_fit}
 use Rattle.factor.specs.Printed.{printed, factor_of, fuel_factor, printed_default, printed_answer, rows_keep}
@@ -18,10 +18,13 @@ Limited class o = (f : Factor) → o ≡ Some f → Within class f
 pub none_limited : (class : ℕ) → Limited class None
 none_limited class f e = absurd (none-some f e)
 
--- of two sources, that of the tier answers
-pub either_limited : (class : ℕ) (b : Bool) (m d : Option Factor) → Limited class m → Limited class d → Limited class (cond b m d)
+either_limited : (class : ℕ) (b : Bool) (m d : Option Factor) → Limited class m → Limited class d → Limited class (cond b m d)
 either_limited class true m d v w = v
 either_limited class false m d v w = w
+
+-- of two sources, that of the tier answers
+pub by_tier_limited : (class : ℕ) (m d : Asked → Option Factor) (q : Asked) → Limited class (m q) → Limited class (d q) → Limited class (by_tier m d q)
+by_tier_limited class m d q = either_limited class (nat_eq q.tier 77) (m q) (d q)
 
 -- a front row that fits answers, and one that does not leaves the answer to the others
 pub answers : (q : Asked) (row : PlantRow) (rows : List PlantRow) → row_fits q row ≡ true → first_fit q (row ∷ rows) ≡ Some (row_factor row)

@@ -1,10 +1,9 @@
-ghost use Rattle.std.specs.Prelude.{◌≡◌, if◌then◌else◌, None, Option, nat_eq};
-ghost use Rattle.kind.specs.Tiers.{letter_of};
+ghost use Rattle.std.specs.Prelude.{◌≡◌, None, Option};
 ghost use Rattle.factor.specs.declared.question.Factor.{Factor};
 ghost use Rattle.factor.specs.declared.question.Question.{Question};
 ghost use Rattle.factor.specs.Classes.{class_number};
-ghost use Rattle.factor.specs.Questions.{Asked, asked_of};
-ghost use Rattle.factor.specs.Limited.{Limited, none_limited, either_limited};
+ghost use Rattle.factor.specs.Questions.{Asked, asked_of, by_tier};
+ghost use Rattle.factor.specs.Limited.{Limited, none_limited, by_tier_limited};
 
 use crate::question::{Factor, Question};
 use kind::Tier;
@@ -52,9 +51,9 @@ impl<M, D> Pair<M, D> {
 }
 
 impl<M: Source, D: Source> Source for Pair<M, D> {
-    ghost table = { λ s a. (if nat_eq a.tier 77 then M.Source.table s.measured a else D.Source.table s.default a) };
+    ghost table = { λ s. by_tier (M.Source.table s.measured) (D.Source.table s.default) };
 
-    ghost limits = { λ s q. either_limited (class_number q.class) (nat_eq (letter_of q.tier) 77) _ _ (M.Source.limits s.measured q) (D.Source.limits s.default q) };
+    ghost limits = { λ s q. by_tier_limited (class_number q.class) (M.Source.table s.measured) (D.Source.table s.default) (asked_of q) (M.Source.limits s.measured q) (D.Source.limits s.default q) };
 
     fn ask(&mut self, question: Question) -> Option<Factor> {
         match question.tier {

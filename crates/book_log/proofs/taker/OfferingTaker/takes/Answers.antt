@@ -6,10 +6,11 @@ use Rattle.book_log.proofs.taker.OfferingTaker.takes.Goals as goal
 
 pub returns : goal.returns
 returns g c =
-    let o = c.offer.ensures in (
-      subst (λ (b : Bool). Offered (c.args.frame.now ∷ []) (g.S.Source.table c.args.self.now.source.now) (contents_of c.args.self.now.book.now) (cond b 1 0) (contents_of c.offer.new.self)) (sym c.is_ok.ensures.value) (offered_one c.offer.result o.follows),
-      o.same,
-      o.memory,
-      refl,
-      refl,
-    )
+    let o = c.offer.ensures in
+    record {
+      offered = subst (λ (b : Bool). Offered (c.args.frame.now ∷ []) (g.S.Source.table c.args.self.now.source.now) (contents_of c.args.self.now.book.now) (cond b 1 0) (contents_of c.offer.new.self)) (sym c.is_ok.ensures.value) (offered_one c.offer.result o.follows);
+      same = o.same;
+      memory = o.memory;
+      book = refl;
+      source = refl;
+    }
