@@ -1,20 +1,11 @@
-// What holds of every set and of some readings, as calls that say so.
 ghost use Rattle.std.specs.Prelude.{◌≡◌};
-ghost use Rattle.reading.specs.Laws.{Stands, Examples};
+ghost use Rattle.reading.specs.Laws.{Stands};
 
 // A set and its bytes determine each other.
 #[tactic(auto, using(crate::proofs::Joined::read_back, crate::proofs::Joined::written_back, crate::proofs::Joined::sized, crate::proofs::Joined::written))]
 pub fn sets_stand() -> u8
     ensures zero { result ≡ 0 }
     ensures sets { Stands }
-{
-    0
-}
-
-// Readings at and past a limit, and quantities of known readings.
-pub fn examples_stand() -> u8
-    ensures zero { result ≡ 0 }
-    ensures examples { Examples }
 {
     0
 }

@@ -5,6 +5,7 @@
 mod binary32;
 mod decoded;
 mod encoded;
+mod examples;
 mod fault;
 mod laws;
 mod limits;
@@ -14,8 +15,9 @@ mod sets;
 
 pub use binary32::{from_bytes, to_bytes};
 pub use encoded::SetBytes;
+pub use examples::examples_stand;
 pub use fault::ReadingFault;
-pub use laws::{examples_stand, sets_stand};
+pub use laws::sets_stand;
 pub use quantities::quantities_of;
 pub use readings::Readings;
 pub use sets::{

@@ -1,7 +1,7 @@
 use Rattle.std.proofs.Common.{refl}
 use lib.Ieee.{of_bits}
 use Rattle.reading.specs.Dyadic.{clear, lawful}
-use Rattle.reading.proofs.laws.examples_stand.Goals as goal
+use Rattle.reading.proofs.examples.examples_stand.Goals as goal
 
 pub returns : goal.returns
 unfolding of_bits clear lawful
