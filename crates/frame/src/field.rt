@@ -105,10 +105,7 @@ impl<'f> Run<'f> {
         let [tag, high, low, rest @ ..] = self.left() else {
             return Err(FrameFault::EndsInside { offset });
         };
-        // A fault after each test, in the order of the format: `let .. else` shows it where `ok_or` would not.
-        let Ok(tag) = Tag::try_from(*tag) else {
-            return Err(FrameFault::TagUnknown { offset });
-        };
+        let tag = Tag::try_from(*tag).map_err(|_| FrameFault::TagUnknown { offset })?;
         // None, before the first field, is below every tag.
         if Some(tag) <= self.above {
             return Err(FrameFault::TagNotRising { offset });
@@ -117,9 +114,7 @@ impl<'f> Run<'f> {
         if !tag.allows(length) {
             return Err(FrameFault::LengthWrong { offset });
         }
-        let Some(bytes) = rest.get(..length) else {
-            return Err(FrameFault::EndsInside { offset });
-        };
+        let bytes = rest.get(..length).ok_or(FrameFault::EndsInside { offset })?;
         self.offset += 3 + length;
         self.above = Some(tag);
         Ok(Field::new(tag, bytes))
