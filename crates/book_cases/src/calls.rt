@@ -12,7 +12,7 @@ pub struct OpenBook<'m> {
     pub sources: Sources<'m>,
 }
 
-// A method for each call of the book, which gives its answer the words to print.
+// A method for each call of the book, with what that takes, which gives its answer the words to print.
 impl OpenBook<'_> {
     fn push(&mut self, row: PlantRow) -> Result<Told, Refusal> {
         Ok(Told::Row(self.sources.pair.measured.push(row)?))

@@ -1,5 +1,3 @@
-ghost use Rattle.std.specs.Prelude.{◌≡◌};
-
 use book::Book;
 use factor::Source;
 use frame_log::Taker;

@@ -22,7 +22,7 @@ impl Day {
         ensures gives { said {T = Day} (λ d. (d.year.number, d.number)) refusal_of result ≡ day_in year.number number }
         ensures faults { IfErr result (λ e. e ≡ DayUnlawful) }
     {
-        if 1 <= number && number <= year.days() {
+        if (1..=year.days()).contains(&number) {
             Ok(Day { year, number })
         } else {
             Err(DateFault::DayUnlawful)
@@ -35,6 +35,7 @@ impl Day {
         self.year
     }
 
+    // A word for the number, where `u16::from` would give none.
     pub fn number(self) -> u16
         ensures { result ≡ self.number }
     {

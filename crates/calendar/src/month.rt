@@ -31,7 +31,7 @@ impl TryFrom<u8> for Month {
     ghost try_from_gives = { λ n r. option_map {T = Month} (λ m. m.number) (result_ok r) ≡ month_in n };
 
     fn try_from(number: u8) -> Result<Month, NoSuchMonth> {
-        if 1 <= number && number <= 12 {
+        if (1..=12).contains(&number) {
             Ok(Month { number })
         } else {
             Err(NoSuchMonth)

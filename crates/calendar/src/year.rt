@@ -25,7 +25,7 @@ impl TryFrom<u16> for Year {
     ghost try_from_gives = { λ n r. (said {T = Year} (λ y. y.number) refusal_of r ≡ year_in n) × IfErr r (λ e. e ≡ YearUnlawful) };
 
     fn try_from(number: u16) -> Result<Year, DateFault> {
-        if FIRST_YEAR <= number && number <= LAST_YEAR {
+        if (FIRST_YEAR..=LAST_YEAR).contains(&number) {
             Ok(Year { number })
         } else {
             Err(DateFault::YearUnlawful)

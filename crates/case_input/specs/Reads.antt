@@ -1,8 +1,9 @@
 -- What is read off the front of the bytes that are left.
 use Rattle.std.specs.Prelude.{◌≡◌, ℕ, ◌+◌, ◌*◌, ◌<◌, ◌≤◌, List, length, drop, slice_index}
+use Rattle.std.specs.Char.{OutOfScalarRange}
 use Rattle.factor.specs.declared.plant.PlantRow.{PlantRow}
 use Rattle.case_input.specs.declared.fault.InputFault.{InputFault}
-use Rattle.case_input.specs.declared.fault.InputFault.TheVariants.{CutOff}
+use Rattle.case_input.specs.declared.fault.InputFault.TheVariants.{CutOff, NoCharacter}
 use Rattle.case_input.specs.declared.input.Input.{Input}
 
 abbrev pub left_of : Input → List ℕ
@@ -24,6 +25,12 @@ two_at bytes i = slice_index bytes i * 256 + slice_index bytes (i + 1)
 
 abbrev pub four : List ℕ → ℕ
 four bytes = two_at bytes 0 * 65536 + two_at bytes 2
+
+-- four bytes are there, and no character has their number
+pub record NoLetter (before : List ℕ) (fault : InputFault) : Type 0 where
+  pub is : fault ≡ NoCharacter
+  pub there : 4 ≤ length before
+  pub none : OutOfScalarRange (four before)
 
 -- a plant list's row of sixteen bytes
 abbrev pub row_of : List ℕ → PlantRow

@@ -1,6 +1,6 @@
-ghost use Rattle.std.specs.Prelude.{◌≡◌, ◌+◌, false, [], ◌∷◌, length, take, drop, IfOk, MatchResult, ◌==◌, nat_eq, slice_index};
+ghost use Rattle.std.specs.Prelude.{◌≡◌, ◌+◌, false, [], ◌∷◌, length, take, drop, ◌⊎◌, MatchResult, ◌==◌, nat_eq, slice_index};
 ghost use Rattle.reading.specs.Fields.{Meaning};
-ghost use Rattle.case_input.specs.Reads.{left_of, Past, EndsBefore, two_at, four, row_of};
+ghost use Rattle.case_input.specs.Reads.{left_of, Past, EndsBefore, NoLetter, two_at, four, row_of};
 
 use crate::fault::InputFault;
 use factor::PlantRow;
@@ -90,13 +90,13 @@ impl<'i> Input<'i> {
     }
 
     pub fn reading(&mut self) -> Result<f32, InputFault>
-        ensures { IfOk result (λ x. Meaning (four (left_of self.old)) x × Past 4 (left_of self.old) (left_of self.new)) }
+        ensures { MatchResult result (λ x. Meaning (four (left_of self.old)) x × Past 4 (left_of self.old) (left_of self.new)) (EndsBefore 4 (left_of self.old)) }
     {
         Ok(reading::from_bytes(self.array()?))
     }
 
     pub fn letter(&mut self) -> Result<char, InputFault>
-        ensures { IfOk result (λ c. (c ≡ four (left_of self.old)) × Past 4 (left_of self.old) (left_of self.new)) }
+        ensures { MatchResult result (λ c. (c ≡ four (left_of self.old)) × Past 4 (left_of self.old) (left_of self.new)) (λ e. EndsBefore 4 (left_of self.old) e ⊎ NoLetter (left_of self.old) e) }
     {
         char::from_u32(self.double_word()?).ok_or(InputFault::NoCharacter)
     }
@@ -110,7 +110,7 @@ impl<'i> Input<'i> {
     }
 
     pub fn row(&mut self) -> Result<PlantRow, InputFault>
-        ensures { IfOk result (λ r. (r ≡ row_of (left_of self.old)) × Past 16 (left_of self.old) (left_of self.new)) }
+        ensures { MatchResult result (λ r. (r ≡ row_of (left_of self.old)) × Past 16 (left_of self.old) (left_of self.new)) (λ e. EndsBefore 16 (left_of self.old) e ⊎ NoLetter (drop 2 (left_of self.old)) e) }
     {
         Ok(PlantRow {
             class: self.byte()?,

@@ -33,7 +33,7 @@ pub struct Sources<'m> {
     pub mode: Mode,
 }
 
-impl<'m> Source for Sources<'m> {
+impl Source for Sources<'_> {
     ghost table = { table_of };
 
     ghost limits = { λ s q. table_limited s (asked_of q) };

@@ -8,12 +8,11 @@ use refusal::Refusal;
 use std::alloc::Global;
 
 fn fill(input: &mut Input<'_>, list: &mut PlantList<'_>) -> anyhow::Result<()> {
+    // A count of rows, and no index.
     let count = input.byte()?;
     for _ in 0..count {
-        let row = input.row()?;
-        if list.push(row).is_err() {
-            return Err(anyhow!("too many rows"));
-        }
+        list.push(input.row()?)
+            .map_err(|_| anyhow!("too many rows"))?;
     }
     Ok(())
 }

@@ -43,6 +43,7 @@ fn factor_for<S: Source>(lawful: Record, source: &mut S) -> Result<Option<Factor
     ensures same { S.Source.table source.new ≡ S.Source.table source.old }
     ensures limits { IfOk result (λ f. Limited (asked (raw_of lawful)) f) }
 {
+    // No fault: a record that asks nothing has no factor.
     let Some(question) = question(lawful) else {
         return Ok(None);
     };

@@ -17,7 +17,7 @@ use reading::Quantities;
 // A missing purity is 98 %.
 const PURITY: u16 = 980;
 
-// A missing factor counts as none, in the definition too, so that no case is left that cannot be.
+// A missing factor counts as none, and so does the missing loss of bought CO2, in the definition too, so that no case is left that cannot be.
 const NO_FACTOR: Factor = Factor { rate: 0, share: 0 };
 
 // The exact emission, in parts of a gram, of four fields of an entry, which is made once its grams are known.

@@ -65,7 +65,7 @@ impl<'f> Seen<'f> {
 }
 
 // What a frame holds, or the first fault from its front, or the first field that is missing.
-pub fn read<'f>(frame: &'f [u8]) -> Result<Fields<'f>, FrameFault>
+pub fn read(frame: &[u8]) -> Result<Fields<'_>, FrameFault>
     ensures { said parts_of refusal_of result ≡ frame_of frame.now }
 {
     let mut seen = Seen::default();
@@ -76,7 +76,7 @@ pub fn read<'f>(frame: &'f [u8]) -> Result<Fields<'f>, FrameFault>
 }
 
 // The meter's name as a part of the frame, empty where the frame has none; it checks the frame layer and no more.
-pub fn name<'f>(frame: &'f [u8]) -> Result<&'f [u8], FrameFault>
+pub fn name(frame: &[u8]) -> Result<&[u8], FrameFault>
     ensures { said bytes_at refusal_of result ≡ name_of frame.now }
 {
     Ok(read(frame)?.name)

@@ -55,6 +55,7 @@ fn put(out: &mut [u8], at: usize, field: Option<Field<'_>>) -> usize
     ensures end { result ≡ at + length (field_bytes field.entry) }
     ensures wrote { out.new ≡ take at out.old ++ (field_bytes field.entry ++ drop (at + length (field_bytes field.entry)) out.old) }
 {
+    // No fault: a field that is missing takes no bytes.
     let Some(field) = field else {
         return at;
     };

@@ -6,9 +6,9 @@ use Rattle.refusal.specs.declared.Refusal.{Refusal}
 use Rattle.calendar.specs.Calendar.{year_lawful}
 use Rattle.frame.specs.Format.{word}
 use Rattle.record.specs.declared.raw.RawRecord.{RawRecord}
+use Rattle.record.specs.Records.{two_bytes, record_in}
 use Rattle.frame_log.specs.declared.frames.CutOff.{CutOff}
 use Rattle.frame_log.specs.declared.frames.Frames.{Frames}
-use Rattle.record.specs.Records.{two_bytes, record_in}
 
 -- a frame after its length
 abbrev pub framed : List ℕ → List ℕ

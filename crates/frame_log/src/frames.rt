@@ -1,5 +1,5 @@
 ghost use Rattle.std.specs.Prelude.{◌≡◌, ◌<◌, ◌++◌, length, MatchOption};
-ghost use Rattle.frame_log.specs.Log.{framed, Ended};
+ghost use Rattle.frame_log.specs.Log.{framed, Ended, left_of};
 
 // The end of a log cuts a frame off: bytes are left, and no whole frame.
 #[derive(Clone, Copy, PartialEq, Eq, Debug)]
@@ -13,16 +13,17 @@ pub struct Frames<'l> {
 
 impl<'l> Frames<'l> {
     pub fn new(log: &'l [u8]) -> Frames<'l>
-        ensures { result.rest.now ≡ log.now }
+        ensures { left_of result ≡ log.now }
     {
         Frames { rest: log }
     }
 }
 
 // The first frame and what follows it, unless the log has ended or is cut off.
-fn split_frame<'l>(log: &'l [u8]) -> Option<(&'l [u8], &'l [u8])>
+fn split_frame(log: &[u8]) -> Option<(&[u8], &[u8])>
     ensures { MatchOption result (Ended log.now) (λ r. (framed r.0.now ++ r.1.now ≡ log.now) × (length r.0.now < 65536)) }
 {
+    // By a slice pattern, which names both bytes of the length.
     let [high, low, rest @ ..] = log else {
         return None;
     };
@@ -44,6 +45,7 @@ impl<'l> Iterator for Frames<'l> {
             return None;
         }
         let Some((frame, rest)) = split_frame(self.rest) else {
+            // Nothing comes after what is cut off.
             self.rest = &[];
             return Some(Err(CutOff));
         };

@@ -1,6 +1,6 @@
-ghost use Rattle.std.specs.Prelude.{◌≡◌, ℕ, ◌<◌, Bool, List, ◌++◌, length, Some, MatchOption, codes};
+ghost use Rattle.std.specs.Prelude.{ℕ, Bool, List, ◌++◌, Some, codes};
 ghost use Rattle.std.specs.Fmt.{decimal};
-ghost use Rattle.frame_log.specs.Log.{framed, Ended, Tallied};
+ghost use Rattle.frame_log.specs.Log.{Tallied};
 
 use crate::frames::{CutOff, Frames};
 use std::fmt;
@@ -36,6 +36,7 @@ pub fn tally<T: Taker>(frames: &[u8], taker: &mut T) -> Counts
     let mut taken = 0;
     let mut refused = 0;
     for frame in Frames::new(frames) {
+        // A match: a closure that borrows the taker, or a second condition after `if let`, hides from the proof what was handed over.
         let is_taken = match frame {
             Ok(frame) => taker.takes(frame),
             Err(CutOff) => false,

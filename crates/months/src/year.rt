@@ -13,7 +13,7 @@ pub struct Months {
     accounts: [Account; 12],
 }
 
-// Where a month's account stands.
+// Where a month's account stands: an array with an account to each month, and no loop.
 fn place(month: Month) -> usize
     ensures { result ≡ month.number - 1 }
 {

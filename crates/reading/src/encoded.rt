@@ -21,9 +21,7 @@ fn joined(readings: &[f32]) -> SetBytes
 {
     let mut bytes = SetBytes::new();
     for x in readings {
-        for byte in to_bytes(*x) {
-            bytes.push(byte);
-        }
+        bytes.try_extend_from_slice(&to_bytes(*x)).unwrap();
     }
     bytes
 }

@@ -8,7 +8,7 @@ use calendar::Year;
 use journal::JournalEntry;
 
 // A new year: every month open, no entry. Of the memory the first 60,000 rows may be used, or all if there are fewer.
-pub fn open<'m>(year: Year, memory: &'m mut [JournalEntry]) -> Book<'m>
+pub fn open(year: Year, memory: &mut [JournalEntry]) -> Book<'_>
     ensures follows { Follows year.number (usable memory.old) [] (contents_of result) }
     ensures law { Lawful year.number (usable memory.old) }
     ensures memory { result.journal.rows.ghost_name ≡ memory.entry.ghost_name }

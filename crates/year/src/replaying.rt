@@ -25,6 +25,7 @@ fn offer_from<S: Source>(book: &mut Book<'_>, sources: &mut [S], at: usize, fram
     }
 }
 
+// The answers are let go: what each of them is, the list of calls determines.
 fn replay_call<S: Source>(book: &mut Book<'_>, sources: &mut [S], call: Call<'_>)
     ensures called { Called (call_of (map S.Source.table sources.old) call.entry) (contents_of book.old) (contents_of book.new) }
     ensures tables { map S.Source.table sources.new ≡ map S.Source.table sources.old }

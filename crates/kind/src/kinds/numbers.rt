@@ -14,7 +14,7 @@ impl TryFrom<u8> for Fuel {
     ghost try_from_gives = { λ row r. said fuel_item refusal_of r ≡ fuel_in row };
 
     fn try_from(row: u8) -> Result<Fuel, KindFault> {
-        if 1 <= row && row <= 21 {
+        if (1..=21).contains(&row) {
             Ok(Fuel { row })
         } else {
             Err(KindFault::KindUnknown)

@@ -1,10 +1,7 @@
-use Rattle.std.proofs.Common.{◌≡◌, length, ◌+◌, ◌*◌, ◌++◌, take}
+use Rattle.std.proofs.Common.{◌≡◌, length, ◌*◌, take}
 use Rattle.std.specs.List.{flat_map}
 use Rattle.reading.specs.Wire.{encode}
 use Rattle.reading.proofs.encoded.joined.Given as goal
-
-abbrev pub invariant-loop-byte : goal.invariant-loop-byte
-invariant-loop-byte l = record { items : l.bytes.items ≡ l.initial.bytes.items ++ take l.byte-index l.byte-items; filled : length l.bytes.items ≡ length l.initial.bytes.items + l.byte-index }
 
 abbrev pub invariant-loop-x : goal.invariant-loop-x
 invariant-loop-x l = record { items : l.bytes.items ≡ flat_map encode (take l.x-index l.readings); filled : length l.bytes.items ≡ 4 * l.x-index }
