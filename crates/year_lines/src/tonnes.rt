@@ -1,4 +1,5 @@
-ghost use Rattle.std.specs.Prelude.{◌≡◌, ◌<ℤ◌, ◌↔◌, IsTrue, pos, unsigned_abs};
+ghost use Rattle.std.specs.Prelude.{◌≡◌, ◌<ℤ◌, ◌↔◌, IsTrue, Some, pos, unsigned_abs};
+ghost use Rattle.year_lines.specs.Text.{tonnes_text};
 
 use std::fmt;
 
@@ -41,6 +42,8 @@ impl Tonnes {
 }
 
 impl fmt::Display for Tonnes {
+    ghost output = { λ t. Some (tonnes_text t.0) };
+
     fn fmt<W: fmt::Write>(&self, f: &mut fmt::Formatter<W>) -> fmt::Result {
         let sign = if self.is_negative() { "-" } else { "" };
         let whole = self.grams() / GRAMS_PER_TONNE;
