@@ -22,7 +22,7 @@ The book refuses, besides what the layers below refuse, all with place 0 and the
 
     python3 tools/book.py LOGFILE
 
-prints what the program `year_lines` prints for a log.
+prints what the program `carbon_year` prints for a log.
 """
 
 import sys

@@ -335,7 +335,7 @@ def log_counts(log: bytes) -> tuple[int, int, int]:
 
 
 def log_line(log: bytes) -> str:
-    """The line that the program prints for a log."""
+    """The year of a log and how many frames read as lawful records of it, and how many do not."""
     return "%d %d %d\n" % log_counts(log)
 
 

@@ -12,5 +12,6 @@ pub mod SumsNear
 pub mod SumsOne
 pub mod Soundness
 pub mod Steps
+pub mod Few
 pub mod Years
 pub mod Runs

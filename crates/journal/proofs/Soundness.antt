@@ -88,7 +88,7 @@ all_read : {A : Type 0} (P : A → Type 0) (xs : List A) → ((i : ℕ) (x : A) 
 all_read P [] h = tt
 all_read P (x ∷ xs) h = (h 0 x (omega arith) refl, all_read P xs (λ i y below is. h (suc i) y (omega arith) is))
 
-used_length : (b : Contents) → Sound b → length (used_rows b) ≡ b.used
+pub used_length : (b : Contents) → Sound b → length (used_rows b) ≡ b.used
 used_length b sound = simp length-take (omega (arith, sound.fits))
 
 -- a used row is within bounds, by its place among them

@@ -98,7 +98,7 @@ line_rows : (v : JournalEntry → ℕ) (a n : ℕ) (rows : List JournalEntry) �
 line_rows v a n rows = sum_classes row_line (λ row t. cond (row.stands && t) (v row) 0) (λ row. and_off row.stands (v row)) a n rows
 
 -- the rows of n lines from a on
-abbrev lines_sum : ℕ → ℕ → List JournalEntry → Sum
+abbrev pub lines_sum : ℕ → ℕ → List JournalEntry → Sum
 lines_sum a n rows = rows_sum (λ row. among a n (row_line row)) rows
 
 -- a row is of the seven lines just if it is of the first five or of the last two
@@ -117,6 +117,31 @@ among_tells a n k = (
   λ t. let both = and_parts (leb a k) (ltb k (a + n)) t in (leb-true a k both.0, ltb-true k (a + n) both.1),
   λ both. is_among a n k both.0 both.1,
 )
+
+module _ {b : Contents} (S : Sound b) where
+  -- the rows that stand in line l, whatever their month
+  pub line_count : (l : ℕ) → 1 ≤ l → l ≤ 7 → (year_figure b.months l).count ≡ (rows_sum (λ row. eqb (row_line row) l) (used_rows b)).count
+  line_count l from to =
+      sum_along (λ m. (figure_at b.months m l).count) (λ m. row_count m l (used_rows b)) 1 12
+      (λ m low high. S.counts (place m l low high from to)) ∙
+      year_rows (λ row. 1) l (used_rows b)
+
+  line_grams : (l : ℕ) → 1 ≤ l → l ≤ 7 → (year_figure b.months l).grams ≡ (rows_sum (λ row. eqb (row_line row) l) (used_rows b)).grams
+  line_grams l from to =
+      sum_along (λ m. (figure_at b.months m l).grams) (λ m. row_grams m l (used_rows b)) 1 12
+      (λ m low high. S.weighs (place m l low high from to)) ∙
+      year_rows (λ row. row.entry.grams) l (used_rows b)
+
+  -- the year's figures of i lines from a on, added
+  pub lines_count : (a i : ℕ) → 1 ≤ a → a + i ≤ 8 → sum_by (λ l. (year_figure b.months l).count) (up_from a i) ≡ (lines_sum a i (used_rows b)).count
+  lines_count a i from to =
+      sum_along (λ l. (year_figure b.months l).count) (λ l. (rows_sum (λ row. eqb (row_line row) l) (used_rows b)).count) a i (λ l low high. line_count l (omega arith) (omega arith)) ∙
+      line_rows (λ row. 1) a i (used_rows b)
+
+  lines_grams : (a i : ℕ) → 1 ≤ a → a + i ≤ 8 → sum_by (λ l. (year_figure b.months l).grams) (up_from a i) ≡ (lines_sum a i (used_rows b)).grams
+  lines_grams a i from to =
+      sum_along (λ l. (year_figure b.months l).grams) (λ l. (rows_sum (λ row. eqb (row_line row) l) (used_rows b)).grams) a i (λ l low high. line_grams l (omega arith) (omega arith)) ∙
+      line_rows (λ row. row.entry.grams) a i (used_rows b)
 
 module _ {y n : ℕ} {h : List Call} {b : Contents} (S : Sound b) (T : Tied y n h b) where
   -- a test of rows that tells, of those that stand, which P picks
@@ -185,37 +210,13 @@ module _ {y n : ℕ} {h : List Call} {b : Contents} (S : Sound b) (T : Tied y n 
     record { count = S.counts p; grams = S.weighs p },
   )
 
-  -- the rows that stand in line l, whatever their month
-  line_count : (l : ℕ) → 1 ≤ l → l ≤ 7 → (year_figure b.months l).count ≡ (rows_sum (λ row. eqb (row_line row) l) (used_rows b)).count
-  line_count l from to =
-      sum_along (λ m. (figure_at b.months m l).count) (λ m. row_count m l (used_rows b)) 1 12
-      (λ m low high. S.counts (place m l low high from to)) ∙
-      year_rows (λ row. 1) l (used_rows b)
-
-  line_grams : (l : ℕ) → 1 ≤ l → l ≤ 7 → (year_figure b.months l).grams ≡ (rows_sum (λ row. eqb (row_line row) l) (used_rows b)).grams
-  line_grams l from to =
-      sum_along (λ m. (figure_at b.months m l).grams) (λ m. row_grams m l (used_rows b)) 1 12
-      (λ m low high. S.weighs (place m l low high from to)) ∙
-      year_rows (λ row. row.entry.grams) l (used_rows b)
-
   -- a line of the year is what stands in it
   pub year_line_standing : (l : ℕ) → 1 ≤ l → l ≤ 7 → (s : Sum) × Standing y n h (OfLine l) s × Figures (year_figure b.months l) s
   year_line_standing l from to = (
     rows_sum (λ row. eqb (row_line row) l) (used_rows b),
     rows_standing _ (OfLine l) (λ k row at stands. Decides-like (eqb (row_line row) l) (λ e. record { line = e }) (λ o. o.line) (Decides-eqb (row_line row) l)),
-    record { count = line_count l from to; grams = line_grams l from to },
+    record { count = line_count S l from to; grams = line_grams S l from to },
   )
-
-  -- the year's figures of i lines from a on, added
-  lines_count : (a i : ℕ) → 1 ≤ a → a + i ≤ 8 → sum_by (λ l. (year_figure b.months l).count) (up_from a i) ≡ (lines_sum a i (used_rows b)).count
-  lines_count a i from to =
-      sum_along (λ l. (year_figure b.months l).count) (λ l. (rows_sum (λ row. eqb (row_line row) l) (used_rows b)).count) a i (λ l low high. line_count l (omega arith) (omega arith)) ∙
-      line_rows (λ row. 1) a i (used_rows b)
-
-  lines_grams : (a i : ℕ) → 1 ≤ a → a + i ≤ 8 → sum_by (λ l. (year_figure b.months l).grams) (up_from a i) ≡ (lines_sum a i (used_rows b)).grams
-  lines_grams a i from to =
-      sum_along (λ l. (year_figure b.months l).grams) (λ l. (rows_sum (λ row. eqb (row_line row) l) (used_rows b)).grams) a i (λ l low high. line_grams l (omega arith) (omega arith)) ∙
-      line_rows (λ row. row.entry.grams) a i (used_rows b)
 
   -- the rows of some lines are what stands in them
   lines_standing : (a i : ℕ) (P : Kept → Type 0) → ((row : JournalEntry) → Decides (among a i (row_line row)) (P (kept_of row.entry))) → Standing y n h P (lines_sum a i (used_rows b))
@@ -231,6 +232,6 @@ module _ {y n : ℕ} {h : List Call} {b : Contents} (S : Sound b) (T : Tied y n 
     added_is = lines_standing 1 5 IsAdded (λ row. Decides-like (among 1 5 (row_line row)) (λ w. record { line = omega arith }) (λ e. ((line_bounds row).0, omega (arith, e.line))) (among_tells 1 5 (row_line row)));
     deducted_is = lines_standing 6 2 IsDeducted (λ row. Decides-like (among 6 2 (row_line row)) (λ w. record { line = w.0 }) (λ e. (e.line, omega (arith, (line_bounds row).1))) (among_tells 6 2 (row_line row)));
     splits = lines_split (used_rows b);
-    counts = lines_count 1 7 (lit≤ tt) (lit≤ tt);
-    nets = λ i. pos (lines_grams 1 5 (lit≤ tt) (lit≤ tt) i) -ℤ pos (lines_grams 6 2 (lit≤ tt) (lit≤ tt) i);
+    counts = lines_count S 1 7 (lit≤ tt) (lit≤ tt);
+    nets = λ i. pos (lines_grams S 1 5 (lit≤ tt) (lit≤ tt) i) -ℤ pos (lines_grams S 6 2 (lit≤ tt) (lit≤ tt) i);
   }

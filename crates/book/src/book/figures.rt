@@ -36,7 +36,7 @@ impl<'m> Book<'m> {
     // A line of the whole year: its twelve months added. No line has more than 60,000 entries in a month, so that nothing overflows.
     pub fn year_figure(&self, line: Line) -> Figure
         ensures is { result ≡ year_figure self.now.months (line_number line) }
-        ensures few { result.count ≤ 12 * 60000 }
+        ensures few { result.count ≤ 60000 }
         ensures light { result.grams ≤ 12 * (60000 * most_grams) }
         ensures told { TellsYearLine (contents_of self.now) (line_number line) (Ok result) }
     {
@@ -63,6 +63,7 @@ impl<'m> Book<'m> {
     pub fn total(&self) -> Total
         ensures count { result.count ≡ total_count self.now.months }
         ensures net { result.grams ≡ net_grams self.now.months }
+        ensures few { result.count ≤ 60000 }
         ensures told { TellsTotal (contents_of self.now) result.count result.grams }
     {
         // Line by line, as the rule has it: five are added and two deducted.

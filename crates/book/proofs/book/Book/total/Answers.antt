@@ -1,3 +1,5 @@
+use Rattle.std.proofs.Common.{arith}
+use Rattle.journal.proofs.Few.{total_few}
 use Rattle.journal.proofs.Runs.{total_told}
 use Rattle.book.specs.Views.{contents_of}
 use Rattle.book.proofs.Held.{sound}
@@ -20,4 +22,5 @@ returns c =
     let net = total_nets fuel.result carbonate.result wastewater.result power.result heat.result power-sold.result heat-sold.result
     fuel.ensures.light carbonate.ensures.light wastewater.ensures.light power.ensures.light heat.ensures.light power-sold.ensures.light heat-sold.ensures.light
     ms fuel.ensures.is carbonate.ensures.is wastewater.ensures.is power.ensures.is heat.ensures.is power-sold.ensures.is heat-sold.ensures.is in
-    record { count = count; net = net; told = total_told (contents_of c.args.self.now) (sound c.args.self.now) _ _ count net }
+    let few = total_few (contents_of c.args.self.now) (sound c.args.self.now) in
+    record { count = count; net = net; few = omega (arith, count, few); told = total_told (contents_of c.args.self.now) (sound c.args.self.now) _ _ count net }

@@ -1,4 +1,7 @@
-use Rattle.std.proofs.Common.{◌≡◌, ◌+◌, arith}
+use Rattle.std.proofs.Common.{◌≡◌, ◌+◌, ap, arith}
+use Rattle.months.specs.declared.account.Figure.{Figure}
+use Rattle.months.proofs.Changes.{line_bounds}
+use Rattle.journal.proofs.Few.{line_few}
 use Rattle.months.specs.Lines.{line_number}
 use Rattle.journal.proofs.Years.{numbered, count_most, grams_most, count_more, grams_more, year_is, year_read}
 use Rattle.journal.proofs.Runs.{year_line_told}
@@ -44,7 +47,7 @@ returns c =
     let is = year_is b.months (line_number c.args.line) i c.loop-month.count c.loop-month.grams all inv.0 inv.1 in
     record {
       is = is;
-      few = omega (arith, inv.0, count_most b holds c.args.line i);
+      few = omega (arith, ap (λ (f : Figure). f.count) is, line_few b holds (line_number c.args.line) (line_bounds c.args.line).0 (line_bounds c.args.line).1);
       light = omega (arith, inv.1, grams_most b holds c.args.line i);
       told = year_line_told b holds (line_number c.args.line) _ (year_read b.months c.args.line _ is);
     }

@@ -1,0 +1,3 @@
+pub mod Lines
+pub mod Booked
+pub mod Short
