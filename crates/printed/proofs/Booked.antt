@@ -20,6 +20,7 @@ use Rattle.book.proofs.Held.{sound}
 use Rattle.book_log.specs.Log.{OfferedAll}
 use Rattle.printed.specs.Text.{year_text}
 use Rattle.printed.specs.Printed.{default_table, calls_of, YearPrinted}
+use Rattle.printed.proofs.Alone.{year_alone}
 
 -- a list without rows holds nothing
 abbrev none : Asked → Option Factor
@@ -32,15 +33,20 @@ empty_list list e = λ i q. first_fit q (held list.list.rows.now (e i))
 line_read : (ms : Months) (l : ℕ) → IsLine l → Ok (year_figure ms l) ≡ year_line_read ms l
 line_read ms l w = rw (le-leb 1 l w.from_fuel, le-leb l 7 w.to_heat_sold) refl
 
+-- the text is that of the year, and no other is
+pub record Determined (y n : ℕ) (bytes text : List ℕ) : Type 0 where
+  pub printed : YearPrinted y n bytes text
+  pub alone : (other : List ℕ) → YearPrinted y n bytes other → other ≡ text
+
 pub printed_year : (y n : ℕ) (start : Contents) (book : Book) (bytes text : List ℕ) (table : Table) (taken refused : ℕ)
     → Follows y n [] start → OfferedAll bytes table start taken refused (contents_of book) → table ≡ default_table
     → text ≡ year_text book.year.number taken refused (year_figure book.months) (total_count book.months) (net_grams book.months)
-    → YearPrinted y n bytes text
+    → Determined y n bytes text
 printed_year y n start book bytes text table taken refused opened offered is shown =
     let o = subst (λ (t : Table). OfferedAll bytes t start taken refused (contents_of book)) is offered in
     let follows = o.offered.follows y n [] opened in
     let none : 0 + taken ≡ taken = omega arith in
-    record {
+    let p : YearPrinted y n bytes text = record {
       frames = o.frames;
       rest = o.rest;
       spells = o.spells;
@@ -54,4 +60,5 @@ printed_year y n start book bytes text table taken refused opened offered is sho
       net = net_grams book.months;
       total = total_told (contents_of book) (sound book) (total_count book.months) (net_grams book.months) refl refl y n (calls_of o.frames) follows;
       is = shown ∙ ap (λ (k : ℕ). year_text k taken refused (year_figure book.months) (total_count book.months) (net_grams book.months)) (agrees follows).year;
-    }
+    } in
+    record { printed = p; alone = λ other q. year_alone p follows q }

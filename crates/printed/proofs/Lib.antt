@@ -1,3 +1,4 @@
 pub mod Lines
+pub mod Alone
 pub mod Booked
 pub mod Short

@@ -41,10 +41,11 @@ pub data LogPrinted (n : ℕ) (log text : List ℕ) : Type 0 where
   no_year : Yearless log → text ≡ no_year_text → LogPrinted n log text
   of_year : {y : ℕ} → Names log y → YearPrinted y n (drop 2 log) text → LogPrinted n log text
 
--- the text of a log, of whose entries n may be used, stands in the front of a buffer and has so many bytes
+-- the text of a log, of whose entries n may be used, and there is no other, stands in the front of a buffer and has so many bytes
 pub record Wrote (n : ℕ) (log before : List ℕ) (size : ℕ) (after : List ℕ) : Type 0 where
   pub text : List ℕ
   pub printed : LogPrinted n log text
+  pub alone : (other : List ℕ) → LogPrinted n log other → other ≡ text
   pub long : size ≡ length text
   pub within : size ≤ 576
   pub front : after ≡ text ++ drop size before

@@ -1,4 +1,4 @@
-ghost use Rattle.std.specs.Prelude.{MatchResult};
+ghost use Rattle.std.specs.Prelude.{◌≡◌, ℕ, List, MatchResult};
 ghost use Rattle.journal.specs.Contents.{usable};
 ghost use Rattle.printed.specs.Printed.{YearPrinted, LogPrinted, Wrote, TooShort};
 
@@ -15,7 +15,8 @@ pub const LONGEST: usize = 576;
 
 // The year after its frames. There are no plant factors: what is measured is looked for in an empty list.
 fn booked(year: Year, frames: &[u8], memory: &mut [JournalEntry]) -> YearText
-    ensures { YearPrinted year.number (usable memory.old) frames.now result.items }
+    ensures printed { YearPrinted year.number (usable memory.old) frames.now result.items }
+    ensures alone { (other : List ℕ) → YearPrinted year.number (usable memory.old) frames.now other → other ≡ result.items }
 {
     let mut book = open(year, memory);
     let mut pair = Pair::new(PlantList::new(&mut []), Printed);
@@ -25,7 +26,8 @@ fn booked(year: Year, frames: &[u8], memory: &mut [JournalEntry]) -> YearText
 
 // What is printed of a log: its year, or three zeros where it begins with no lawful one.
 fn log_text(log: &[u8], memory: &mut [JournalEntry]) -> YearText
-    ensures { LogPrinted (usable memory.old) log.now result.items }
+    ensures printed { LogPrinted (usable memory.old) log.now result.items }
+    ensures alone { (other : List ℕ) → LogPrinted (usable memory.old) log.now other → other ≡ result.items }
 {
     let Some((year, frames)) = year_and_frames(log) else {
         let mut text = YearText::new();

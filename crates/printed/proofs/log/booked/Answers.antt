@@ -9,5 +9,6 @@ use Rattle.printed.proofs.log.booked.Goals as goal
 pub returns : goal.returns
 returns c =
     let empty = empty_list c.new-pair.result.measured (ap (λ (l : PlantList). l.list.length) c.new-pair.ensures.measured ∙ c.new.ensures.count) in
-    printed_year _ _ _ c.offer_frames-counts.new.book _ _ _ _ _ c.open-book.ensures.follows c.offer_frames-counts.ensures.offered
-    (ap (λ (t : Asked → Option Factor). by_tier t printed_answer) empty) c.year_text.ensures
+    let d = printed_year _ _ _ c.offer_frames-counts.new.book _ _ _ _ _ c.open-book.ensures.follows c.offer_frames-counts.ensures.offered
+    (ap (λ (t : Asked → Option Factor). by_tier t printed_answer) empty) c.year_text.ensures in
+    record { printed = d.printed; alone = d.alone }
