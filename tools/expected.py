@@ -6,7 +6,7 @@ a reading is decoded from its 32 bits, never through a floating point number.
 
     python3 tools/expected.py LOGFILE
 
-prints the line `year taken refused` of a log.
+prints `year taken refused` of a log: its frames that read as lawful records of its year, and the others.
 """
 
 import sys
