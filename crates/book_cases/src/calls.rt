@@ -1,9 +1,10 @@
 use crate::told::Told;
 use anyhow::anyhow;
 use book::Book;
-use case_input::{Input, Mode, Sources};
+use case_input::Input;
 use factor::PlantRow;
 use refusal::Refusal;
+use sources::{Mode, Sources};
 
 // A year's book, and the sources that its calls ask.
 #[derive(Drop)]

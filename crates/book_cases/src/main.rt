@@ -7,10 +7,11 @@ mod told;
 use anyhow::anyhow;
 use calendar::Year;
 use calls::OpenBook;
-use case_input::{Input, Mode, NO_ROW, ROWS, Sources};
+use case_input::{Input, NO_ROW, ROWS};
 use factor::{Pair, PlantList, Printed};
 use journal::JournalEntry;
 use refusal::Refusal;
+use sources::{Mode, Sources};
 use std::io::Read;
 use year::open;
 

@@ -1,3 +1,2 @@
 pub mod Reads
-pub mod Sources
 pub mod Text

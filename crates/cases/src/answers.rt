@@ -1,4 +1,4 @@
-use crate::text::{Hex, RecordLine};
+use crate::text::RecordLine;
 use anyhow::anyhow;
 use calendar::{Day, Year};
 use case_input::Input;
@@ -7,6 +7,7 @@ use reading::{ReadingSet, Steam, Wastewater, Water};
 use record::{RawRecord, read};
 use record_laws::{copy_frame, write_frame};
 use refusal::Refusal;
+use shown::Hex;
 use std::alloc::Global;
 use std::fmt::Write;
 

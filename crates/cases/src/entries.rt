@@ -1,10 +1,11 @@
 use crate::text::EntryLine;
 use anyhow::anyhow;
-use case_input::{Input, NO_ROW, ROWS, Sources};
+use case_input::{Input, NO_ROW, ROWS};
 use emission::{Entry, entry_of};
 use factor::{Pair, PlantList, Printed, Source};
 use record::read;
 use refusal::Refusal;
+use sources::Sources;
 use std::alloc::Global;
 
 fn fill(input: &mut Input<'_>, list: &mut PlantList<'_>) -> anyhow::Result<()> {

@@ -6,9 +6,9 @@ use Rattle.factor.specs.Questions.{Asked, by_tier}
 use Rattle.factor.specs.PlantRows.{first_fit}
 use Rattle.factor.specs.Printed.{printed_answer}
 use Rattle.factor.specs.Limited.{Limited, none_limited, rows_limited, printed_limited, by_tier_limited}
-use Rattle.case_input.specs.declared.sources.Sources.{Sources}
-use Rattle.case_input.specs.declared.sources.Mode.{Mode}
-use Rattle.case_input.specs.declared.sources.Mode.TheVariants.{Listed, Printed, Both, Neither}
+use Rattle.sources.specs.declared.choice.Sources.{Sources}
+use Rattle.sources.specs.declared.choice.Mode.{Mode}
+use Rattle.sources.specs.declared.choice.Mode.TheVariants.{Listed, Printed, Both, Neither}
 
 -- 0, 1 and 2 name a mode, and any other number means that there is no source
 abbrev pub mode_of : ℕ → Mode

@@ -1,6 +1,6 @@
 ghost use Rattle.std.specs.Prelude.{◌≡◌};
 ghost use Rattle.factor.specs.Questions.{asked_of};
-ghost use Rattle.case_input.specs.Sources.{mode_of, table_of, table_limited};
+ghost use Rattle.sources.specs.Sources.{mode_of, table_of, table_limited};
 
 use factor::{Factor, Pair, PlantList, Printed, Question, Source};
 

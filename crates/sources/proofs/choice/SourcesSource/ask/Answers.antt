@@ -1,4 +1,4 @@
-use Rattle.case_input.proofs.sources.SourcesSource.ask.Goals as goal
+use Rattle.sources.proofs.choice.SourcesSource.ask.Goals as goal
 
 pub returns-in-Both-clause-same : goal.returns-in-Both-clause-same
 returns-in-Both-clause-same c = rw c.in-Both.is c.ask-in-Both.ensures.same

@@ -1,0 +1,107 @@
+use crate::desk::{Desk, small};
+use crate::failed::Failed;
+use book::Book;
+use commands::{Command, Reason};
+use factor::PlantRow;
+use frame_log::Counts;
+use printed::year_text;
+use refusal::Refusal;
+use shown::Hex;
+use sources::{Mode, Sources};
+use std::alloc::Global;
+
+// Most bytes that a statement's buffer has.
+const BYTES: u32 = 1_000_000;
+
+// A book with the sources that its offers ask, and how many frames it took and refused since it was opened.
+#[derive(Drop)]
+pub struct OpenBook<'d, 'b, 'r> {
+    pub book: &'d mut Book<'b>,
+    pub counts: &'d mut Counts,
+    pub sources: Sources<'r>,
+}
+
+impl OpenBook<'_, '_, '_> {
+    fn offer(&mut self, heap: Global, frame: &[u8]) -> Result<String, Failed> {
+        match self.book.offer(frame, &mut self.sources) {
+            Ok(booked) => {
+                self.counts.taken = self.counts.taken.saturating_add(1);
+                Ok(format!(in heap; "taken {} {}", booked.number, booked.grams)?)
+            }
+            Err(fault) => {
+                self.counts.refused = self.counts.refused.saturating_add(1);
+                Err(Failed::Refused(fault.into()))
+            }
+        }
+    }
+
+    fn withdraw(&mut self, heap: Global, number: u32) -> Result<String, Failed> {
+        let booked = self.book.withdraw(number as usize).map_err(Refusal::from)?;
+        Ok(format!(in heap; "withdrawn {} {}", booked.number, booked.grams)?)
+    }
+
+    fn line(&self, heap: Global, month: u32, line: u32) -> Result<String, Failed> {
+        let figure = self.book.line(small(month), small(line)).map_err(Refusal::from)?;
+        Ok(format!(in heap; "line {month} {line} {} {}", figure.count, figure.grams)?)
+    }
+
+    fn year_line(&self, heap: Global, line: u32) -> Result<String, Failed> {
+        let figure = self.book.year_line(small(line)).map_err(Refusal::from)?;
+        Ok(format!(in heap; "yearline {line} {} {}", figure.count, figure.grams)?)
+    }
+
+    fn statement(&self, heap: Global, bytes: u32) -> Result<String, Failed> {
+        if bytes > BYTES {
+            return Err(Failed::Error(Reason::TooManyBytes));
+        }
+        let mut buffer = vec![in heap; 0u8; bytes as usize]?;
+        let length = statement::write(self.book, buffer.as_mut_slice()).map_err(Refusal::from)?;
+        // The statement is never longer than the buffer.
+        let bytes = buffer.as_slice().get(..length).unwrap_or(&[]);
+        Ok(format!(in heap; "statement {}", Hex(bytes))?)
+    }
+
+    fn print(&self, heap: Global) -> Result<String, Failed> {
+        let text = year_text(self.book, *self.counts);
+        let lines = str::from_utf8(text.as_slice()).unwrap_or("");
+        Ok(format!(in heap; "{}", lines.trim_end())?)
+    }
+}
+
+impl Desk for OpenBook<'_, '_, '_> {
+    fn push(&mut self, row: PlantRow) -> Result<usize, Refusal> {
+        Ok(self.sources.pair.measured.push(row)?)
+    }
+
+    fn choose(&mut self, mode: Mode) {
+        self.sources.mode = mode;
+    }
+
+    fn answer(&mut self, heap: Global, command: Command) -> Result<String, Failed> {
+        match command {
+            Command::Offer(frame) => self.offer(heap, frame.as_slice()),
+            Command::Withdraw(number) => self.withdraw(heap, number),
+            Command::Hold(month) => {
+                let month = self.book.hold(small(month)).map_err(Refusal::from)?;
+                Ok(format!(in heap; "held {month}")?)
+            }
+            Command::Release(month) => {
+                let month = self.book.release(small(month)).map_err(Refusal::from)?;
+                Ok(format!(in heap; "released {month}")?)
+            }
+            Command::Close(month) => {
+                let month = self.book.close(small(month)).map_err(Refusal::from)?;
+                Ok(format!(in heap; "closed {month}")?)
+            }
+            Command::Line { month, line } => self.line(heap, month, line),
+            Command::YearLine(line) => self.year_line(heap, line),
+            Command::Total => {
+                let total = self.book.total();
+                Ok(format!(in heap; "total {} {}", total.count, total.grams)?)
+            }
+            Command::Statement(bytes) => self.statement(heap, bytes),
+            Command::Print => self.print(heap),
+            _ => Err(Failed::Error(Reason::UnknownCommand)),
+        }
+    }
+}
