@@ -247,6 +247,13 @@ def tonnes(grams: int) -> str:
     return f"{'-' if grams < 0 else ''}{whole}.{rest:06d}"
 
 
+def printed_rows(book: Book, refused: int) -> list[str]:
+    """The nine lines of a book's year, with the number of frames that were refused."""
+    figures = [(line, *book.year_line(line)) for line in LINES] + [("T", *book.total())]
+    first = f"{book.year} {len(book.offerings)} {refused}"
+    return [first] + [f"{name} {count} {tonnes(grams)}" for name, count, grams in figures]
+
+
 def printed_year(log: bytes) -> str:
     """What the program prints for a log."""
     if len(log) < 2:
@@ -255,10 +262,7 @@ def printed_year(log: bytes) -> str:
         book, refusals, cut = book_of(log)
     except Refused:
         return NO_YEAR
-    figures = [(line, *book.year_line(line)) for line in LINES] + [("T", *book.total())]
-    rows = [f"{book.year} {len(book.offerings)} {len(refusals) + cut}"]
-    rows += [f"{name} {count} {tonnes(grams)}" for name, count, grams in figures]
-    return "".join(row + "\n" for row in rows)
+    return "".join(row + "\n" for row in printed_rows(book, len(refusals) + cut))
 
 
 if __name__ == "__main__":
