@@ -5,8 +5,7 @@
 prints what the program prints for a script of commands.
 
 Commands come one to a line, and each is answered with one line, `print` with nine. A line without words, or
-with `#` as its first character, is passed over. Words are separated by spaces and tabs; a carriage return at a
-line's end counts as a space. Numbers are decimal digits alone. HEX is bytes in hexadecimal, either case read
+with `#` as its first character, is passed over. Words are separated by spaces, tabs and carriage returns. Numbers are decimal digits alone. HEX is bytes in hexadecimal, either case read
 and upper case written, and `-` for no bytes.
 
     open YEAR ENTRIES       `year YEAR`; a new book in place of the old one
@@ -90,7 +89,7 @@ def words_of(line: str) -> list[str]:
     """The words of a line; none of a comment."""
     if line.startswith("#"):
         return []
-    spaced = line.removesuffix("\r").replace("\t", " ")
+    spaced = line.replace("\t", " ").replace("\r", " ")
     return [each for each in spaced.split(" ") if each]
 
 

@@ -248,7 +248,7 @@ def spaces(script: Script) -> None:
     script.say("month 00000000002024 " + 60 * "0" + "1", "month 1")
     script.say("month 2024 " + 400 * "0", "refused record 6 0")
     script.say("month 2024 " + 300 * "9", "error number too large")
-    script.say("month 2024\r 60", "error not a number")
+    script.say("month 2024\r 60", "month 2")
     script.say("name 0100", "refused frame 1 0")
     script.say("name 07e8", "refused frame 1 0")
     script.say("frame 2024 366 1 2 D - 447a0000 4a6B", f"frame {EXAMPLE}0700024A6B")

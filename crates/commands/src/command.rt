@@ -174,17 +174,15 @@ fn named(heap: Global, name: &str, rest: &[&str]) -> Result<Command, Fault> {
 
 // The command of a line, or none where it is blank or begins with #.
 pub fn parse(heap: Global, line: &str) -> Result<Option<Command>, Fault> {
+    if line.starts_with('#') {
+        return Ok(None);
+    }
     let mut words = Vec::new(heap);
     for word in line.split_whitespace() {
         words.push(word).map_err(|e| AllocError::from(e))?;
     }
     match words.as_slice() {
         [] => Ok(None),
-        [name, rest @ ..] => {
-            if name.starts_with('#') {
-                return Ok(None);
-            }
-            Ok(Some(named(heap, name, rest)?))
-        }
+        [name, rest @ ..] => { Ok(Some(named(heap, name, rest)?)) }
     }
 }

@@ -8,3 +8,4 @@ mod words;
 
 pub use command::{Command, Stated, parse};
 pub use fault::{Fault, Reason};
+pub use words::{bytes, number};

@@ -27,13 +27,15 @@ pub(crate) fn readings(word: &str, item: u32) -> Result<ReadingSet, Reason> {
             kilograms: *kilograms,
             kilopascals: *kilopascals,
         })),
-        [cubic_metres, inlet, outlet, sludge, recovered] => Ok(ReadingSet::Wastewater(Wastewater {
-            cubic_metres: *cubic_metres,
-            inlet: *inlet,
-            outlet: *outlet,
-            sludge: *sludge,
-            recovered: *recovered,
-        })),
+        [cubic_metres, inlet, outlet, sludge, recovered] => Ok(ReadingSet::Wastewater(
+            Wastewater {
+                cubic_metres: *cubic_metres,
+                inlet: *inlet,
+                outlet: *outlet,
+                sludge: *sludge,
+                recovered: *recovered,
+            },
+        )),
         _ => Err(Reason::NotReadings),
     }
 }

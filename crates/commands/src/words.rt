@@ -1,8 +1,14 @@
+ghost use Rattle.std.specs.Prelude.{◌≡◌, IfOk};
+ghost use Rattle.std.specs.Str.Parse.{digits_value, without_leading_plus};
+ghost use Rattle.commands.specs.Words.{HexWord};
+
 use crate::fault::{Fault, Reason};
 use std::alloc::{AllocError, Global};
 
 // A decimal number of 32 bits.
-pub(crate) fn number(word: &str) -> Result<u32, Reason> {
+pub fn number(word: &str) -> Result<u32, Reason>
+    ensures { IfOk result (λ n. n ≡ digits_value 10 (without_leading_plus word.now)) }
+{
     if word.is_empty() || !word.bytes().all(|byte| byte.is_ascii_digit()) {
         return Err(Reason::NotANumber);
     }
@@ -29,7 +35,9 @@ pub(crate) fn letter(word: &str) -> Result<char, Reason> {
 }
 
 // Bytes in hexadecimal; a dash means none.
-pub(crate) fn bytes(heap: Global, word: &str) -> Result<Vec<u8>, Fault> {
+pub fn bytes(heap: Global, word: &str) -> Result<Vec<u8>, Fault>
+    ensures { IfOk result (λ b. HexWord word.now b.items) }
+{
     if word == "-" {
         return Ok(Vec::new(heap));
     }

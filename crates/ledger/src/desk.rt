@@ -73,7 +73,12 @@ fn month_of(heap: Global, year: u32, day: u32) -> Result<String, Failed> {
 fn record_of(heap: Global, frame: &[u8]) -> Result<String, Failed> {
     let raw = read(frame).map_err(Refusal::from)?.raw();
     let front = format!(in heap; "record {} {} {} {}", raw.year, raw.day, raw.kind, raw.item)?;
-    Ok(format!(in heap; "{front} {} {} {}", raw.tier, OrDash(raw.share), Bits(raw.readings))?)
+    Ok(format!(in heap;
+        "{front} {} {} {}",
+        raw.tier,
+        OrDash(raw.share),
+        Bits(raw.readings)
+    )?)
 }
 
 fn quantities_of(heap: Global, frame: &[u8]) -> Result<String, Failed> {

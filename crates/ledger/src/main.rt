@@ -162,7 +162,6 @@ fn serve<D: Desk>(
         let Some(line) = lines.next_line() else {
             break;
         };
-        let line = line.strip_suffix(b"\r").unwrap_or(line);
         let Ok(line) = str::from_utf8(line) else {
             print_answer(rt, Err(Failed::Error(Reason::UnknownCommand)))?;
             continue;
@@ -195,11 +194,7 @@ fn listed<'m>(memory: &'m mut [PlantRow], kept: &Kept) -> Sources<'m> {
 }
 
 // Answers the lines up to the first opening.
-fn before_a_year(
-    rt: &HostRuntime,
-    lines: &mut Lines<'_>,
-    kept: &mut Kept,
-) -> anyhow::Result<Next> {
+fn before_a_year(rt: &HostRuntime, lines: &mut Lines<'_>, kept: &mut Kept) -> anyhow::Result<Next> {
     for _ in 0..=lines.rest.len() {
         let mut memory = vec![in rt.alloc(); NO_ROW; kept.room]?;
         let mut desk = Unopened {

@@ -41,7 +41,10 @@ impl OpenBook<'_, '_, '_> {
     }
 
     fn line(&self, heap: Global, month: u32, line: u32) -> Result<String, Failed> {
-        let figure = self.book.line(small(month), small(line)).map_err(Refusal::from)?;
+        let figure = self
+            .book
+            .line(small(month), small(line))
+            .map_err(Refusal::from)?;
         Ok(format!(in heap; "line {month} {line} {} {}", figure.count, figure.grams)?)
     }
 
