@@ -1,18 +1,31 @@
-ghost use Rattle.std.specs.Prelude.{◌≡◌, IfOk};
-ghost use Rattle.std.specs.Str.Parse.{digits_value, without_leading_plus};
-ghost use Rattle.commands.specs.Words.{HexWord};
+ghost use Rattle.std.specs.Prelude.{◌≡◌, ◌↔◌, IsTrue, MatchResult};
+ghost use Rattle.std.specs.Str.Parse.{IsNumeral, digits_value};
+ghost use Rattle.commands.specs.Words.{HexWord, NoBytes, NoNumber};
 
 use crate::fault::{Fault, Reason};
+use hex::FromHexError;
 use std::alloc::{AllocError, Global};
+
+// Whether a word is decimal digits and nothing else.
+fn is_numeral(word: &str) -> bool
+    ensures { IsTrue result ↔ IsNumeral 10 word.now }
+{
+    for byte in word.as_bytes() {
+        if !byte.is_ascii_digit() {
+            return false;
+        }
+    }
+    !word.is_empty()
+}
 
 // A decimal number of 32 bits.
 pub fn number(word: &str) -> Result<u32, Reason>
-    ensures { IfOk result (λ n. n ≡ digits_value 10 (without_leading_plus word.now)) }
+    ensures { MatchResult result (λ n. IsNumeral 10 word.now × (n ≡ digits_value 10 word.now)) (NoNumber word.now) }
 {
-    if word.is_empty() || !word.bytes().all(|byte| byte.is_ascii_digit()) {
+    if !is_numeral(word) {
         return Err(Reason::NotANumber);
     }
-    word.parse::<u32>().map_err(|_| Reason::NumberTooLarge)
+    word.parse::<u32>().ok().ok_or(Reason::NumberTooLarge)
 }
 
 // A number that a smaller type holds.
@@ -36,14 +49,18 @@ pub(crate) fn letter(word: &str) -> Result<char, Reason> {
 
 // Bytes in hexadecimal; a dash means none.
 pub fn bytes(heap: Global, word: &str) -> Result<Vec<u8>, Fault>
-    ensures { IfOk result (λ b. HexWord word.now b.items) }
+    ensures { MatchResult result (λ b. HexWord word.now b.items) (NoBytes word.now) }
 {
     if word == "-" {
         return Ok(Vec::new(heap));
     }
     match hex::decode(heap, word) {
         Ok(bytes) => Ok(bytes),
-        Err(hex::FromHexError::OutOfMemory) => Err(Fault::Memory(AllocError)),
-        Err(_) => Err(Fault::Reason(Reason::NotHexadecimal)),
+        Err(FromHexError::OutOfMemory) => Err(Fault::Memory(AllocError)),
+        Err(FromHexError::OddLength) => Err(Fault::Reason(Reason::NotHexadecimal)),
+        Err(FromHexError::InvalidStringLength) => Err(Fault::Reason(Reason::NotHexadecimal)),
+        Err(FromHexError::InvalidHexCharacter { .. }) => {
+            Err(Fault::Reason(Reason::NotHexadecimal))
+        }
     }
 }
