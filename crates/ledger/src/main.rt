@@ -1,19 +1,13 @@
 // Reads commands from standard input, one to a line, and answers each with a line on standard output.
 #![tactic(auto)]
 
-mod desk;
-mod failed;
-mod open;
-
 use anyhow::anyhow;
 use calendar::Year;
 use commands::{Command, Fault, Reason, parse};
-use desk::{Desk, Unopened, short, without_book};
+use desk::{Desk, Failed, OpenBook, Unopened, short, without_book};
 use factor::{Pair, PlantList, PlantRow, Printed};
-use failed::Failed;
 use frame_log::Counts;
 use journal::JournalEntry;
-use open::OpenBook;
 use refusal::Refusal;
 use sources::{Mode, Sources};
 use std::io::Read;

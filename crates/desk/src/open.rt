@@ -1,5 +1,6 @@
-use crate::desk::{Desk, small};
+use crate::desk::Desk;
 use crate::failed::Failed;
+use crate::records::small;
 use book::Book;
 use commands::{Command, Reason};
 use factor::PlantRow;

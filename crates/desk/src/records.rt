@@ -1,11 +1,9 @@
 use crate::failed::Failed;
 use calendar::{Day, Year};
-use commands::{Command, Reason, Stated};
-use factor::PlantRow;
+use commands::{Command, Stated};
 use record::{RawRecord, read, write};
 use refusal::Refusal;
 use shown::{Bits, Hex, OrDash, Whole};
-use sources::{Mode, Sources};
 use std::alloc::Global;
 
 // Longer than any frame.
@@ -18,38 +16,6 @@ pub fn short(number: u32) -> u16 {
 
 pub fn small(number: u32) -> u8 {
     u8::try_from(number).unwrap_or(0)
-}
-
-// What answers commands: the sources alone, or an open book with them.
-pub trait Desk {
-    // Adds a row to the plant's list.
-    fn push(&mut self, row: PlantRow) -> Result<usize, Refusal>;
-
-    // Which source later offers ask.
-    fn choose(&mut self, mode: Mode);
-
-    // The answer to a command about the book.
-    fn answer(&mut self, heap: Global, command: Command) -> Result<String, Failed>;
-}
-
-// Before a year is open.
-#[derive(Drop)]
-pub struct Unopened<'r> {
-    pub sources: Sources<'r>,
-}
-
-impl Desk for Unopened<'_> {
-    fn push(&mut self, row: PlantRow) -> Result<usize, Refusal> {
-        Ok(self.sources.pair.measured.push(row)?)
-    }
-
-    fn choose(&mut self, mode: Mode) {
-        self.sources.mode = mode;
-    }
-
-    fn answer(&mut self, heap: Global, command: Command) -> Result<String, Failed> {
-        Err(Failed::Error(Reason::NoYear))
-    }
 }
 
 // The answer to a command that asks nothing of a book, or the command back.
