@@ -1,3 +1,10 @@
+ghost use Rattle.std.specs.Prelude.{Some};
+ghost use Rattle.months.specs.declared.state.Event.TheVariants.{Hold as HoldEvent, Release as ReleaseEvent, Close as CloseEvent};
+ghost use Rattle.book.specs.Views.{contents_of};
+ghost use Rattle.journal.specs.Calls.{offer, withdraw, turn};
+ghost use Rattle.sources.specs.Sources.{table_of};
+ghost use Rattle.desk.specs.Done.{Done, call_of, month_of};
+
 use crate::desk::Desk;
 use crate::failed::Failed;
 use crate::records::small;
@@ -23,7 +30,9 @@ pub struct OpenBook<'d, 'b, 'r> {
 }
 
 impl OpenBook<'_, '_, '_> {
-    fn offer(&mut self, heap: Global, frame: &[u8]) -> Result<String, Failed> {
+    fn offer(&mut self, heap: Global, frame: &[u8]) -> Result<String, Failed>
+        ensures { Done (contents_of self.old.book.now) (contents_of self.new.book.now) (Some (offer frame.now (table_of self.old.sources))) }
+    {
         match self.book.offer(frame, &mut self.sources) {
             Ok(booked) => {
                 self.counts.taken = self.counts.taken.saturating_add(1);
@@ -36,9 +45,32 @@ impl OpenBook<'_, '_, '_> {
         }
     }
 
-    fn withdraw(&mut self, heap: Global, number: u32) -> Result<String, Failed> {
+    fn withdraw(&mut self, heap: Global, number: u32) -> Result<String, Failed>
+        ensures { Done (contents_of self.old.book.now) (contents_of self.new.book.now) (Some (withdraw number)) }
+    {
         let booked = self.book.withdraw(number as usize).map_err(Refusal::from)?;
         Ok(format!(in heap; "withdrawn {} {}", booked.number, booked.grams)?)
+    }
+
+    fn hold(&mut self, heap: Global, month: u32) -> Result<String, Failed>
+        ensures { Done (contents_of self.old.book.now) (contents_of self.new.book.now) (Some (turn (month_of month) HoldEvent)) }
+    {
+        let month = self.book.hold(small(month)).map_err(Refusal::from)?;
+        Ok(format!(in heap; "held {month}")?)
+    }
+
+    fn release(&mut self, heap: Global, month: u32) -> Result<String, Failed>
+        ensures { Done (contents_of self.old.book.now) (contents_of self.new.book.now) (Some (turn (month_of month) ReleaseEvent)) }
+    {
+        let month = self.book.release(small(month)).map_err(Refusal::from)?;
+        Ok(format!(in heap; "released {month}")?)
+    }
+
+    fn close(&mut self, heap: Global, month: u32) -> Result<String, Failed>
+        ensures { Done (contents_of self.old.book.now) (contents_of self.new.book.now) (Some (turn (month_of month) CloseEvent)) }
+    {
+        let month = self.book.close(small(month)).map_err(Refusal::from)?;
+        Ok(format!(in heap; "closed {month}")?)
     }
 
     fn line(&self, heap: Global, month: u32, line: u32) -> Result<String, Failed> {
@@ -52,6 +84,11 @@ impl OpenBook<'_, '_, '_> {
     fn year_line(&self, heap: Global, line: u32) -> Result<String, Failed> {
         let figure = self.book.year_line(small(line)).map_err(Refusal::from)?;
         Ok(format!(in heap; "yearline {line} {} {}", figure.count, figure.grams)?)
+    }
+
+    fn total(&self, heap: Global) -> Result<String, Failed> {
+        let total = self.book.total();
+        Ok(format!(in heap; "total {} {}", total.count, total.grams)?)
     }
 
     fn statement(&self, heap: Global, bytes: u32) -> Result<String, Failed> {
@@ -81,31 +118,30 @@ impl Desk for OpenBook<'_, '_, '_> {
         self.sources.mode = mode;
     }
 
-    fn answer(&mut self, heap: Global, command: Command) -> Result<String, Failed> {
+    fn answer(&mut self, heap: Global, command: Command) -> Result<String, Failed>
+        ensures { Done (contents_of self.old.book.now) (contents_of self.new.book.now) (call_of (table_of self.old.sources) command) }
+    {
         match command {
             Command::Offer(frame) => self.offer(heap, frame.as_slice()),
             Command::Withdraw(number) => self.withdraw(heap, number),
-            Command::Hold(month) => {
-                let month = self.book.hold(small(month)).map_err(Refusal::from)?;
-                Ok(format!(in heap; "held {month}")?)
-            }
-            Command::Release(month) => {
-                let month = self.book.release(small(month)).map_err(Refusal::from)?;
-                Ok(format!(in heap; "released {month}")?)
-            }
-            Command::Close(month) => {
-                let month = self.book.close(small(month)).map_err(Refusal::from)?;
-                Ok(format!(in heap; "closed {month}")?)
-            }
+            Command::Hold(month) => self.hold(heap, month),
+            Command::Release(month) => self.release(heap, month),
+            Command::Close(month) => self.close(heap, month),
             Command::Line { month, line } => self.line(heap, month, line),
             Command::YearLine(line) => self.year_line(heap, line),
-            Command::Total => {
-                let total = self.book.total();
-                Ok(format!(in heap; "total {} {}", total.count, total.grams)?)
-            }
+            Command::Total => self.total(heap),
             Command::Statement(bytes) => self.statement(heap, bytes),
             Command::Print => self.print(heap),
-            _ => Err(Failed::Error(Reason::UnknownCommand)),
+            // What is answered without a book.
+            Command::Open { .. }
+            | Command::Rows(_)
+            | Command::Row(_)
+            | Command::Source(_)
+            | Command::Month { .. }
+            | Command::Record(_)
+            | Command::Quantities(_)
+            | Command::Name(_)
+            | Command::Frame(_) => Err(Failed::Error(Reason::UnknownCommand)),
         }
     }
 }

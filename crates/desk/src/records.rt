@@ -1,3 +1,6 @@
+ghost use Rattle.std.specs.Prelude.{◌≡◌};
+ghost use Rattle.desk.specs.Done.{month_of};
+
 use crate::failed::Failed;
 use calendar::{Day, Year};
 use commands::{Command, Stated};
@@ -14,7 +17,9 @@ pub fn short(number: u32) -> u16 {
     u16::try_from(number).unwrap_or(0)
 }
 
-pub fn small(number: u32) -> u8 {
+pub fn small(number: u32) -> u8
+    ensures { result ≡ month_of number }
+{
     u8::try_from(number).unwrap_or(0)
 }
 
