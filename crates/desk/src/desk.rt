@@ -1,3 +1,7 @@
+ghost use Rattle.std.specs.Prelude.{◌≡◌, Err};
+ghost use Rattle.commands.specs.declared.fault.Reason.TheVariants.{NoYear};
+ghost use Rattle.desk.specs.declared.failed.Failed.TheVariants.{Error};
+
 use crate::failed::Failed;
 use commands::{Command, Reason};
 use factor::PlantRow;
@@ -28,11 +32,15 @@ impl Desk for Unopened<'_> {
         Ok(self.sources.pair.measured.push(row)?)
     }
 
-    fn choose(&mut self, mode: Mode) {
+    fn choose(&mut self, mode: Mode)
+        ensures { self.new.sources.mode ≡ mode }
+    {
         self.sources.mode = mode;
     }
 
-    fn answer(&mut self, heap: Global, command: Command) -> Result<String, Failed> {
+    fn answer(&mut self, heap: Global, command: Command) -> Result<String, Failed>
+        ensures { result ≡ Err (Error NoYear) }
+    {
         Err(Failed::Error(Reason::NoYear))
     }
 }

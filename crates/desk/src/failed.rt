@@ -1,3 +1,6 @@
+ghost use Rattle.std.specs.Prelude.{◌≡◌};
+ghost use Rattle.desk.specs.declared.failed.Failed.TheVariants.{Refused, Error, Memory};
+
 use commands::Reason;
 use refusal::Refusal;
 use std::alloc::AllocError;
@@ -12,24 +15,32 @@ pub enum Failed {
 }
 
 impl From<Refusal> for Failed {
+    ghost from_gives = { λ e r. r ≡ Refused e };
+
     fn from(e: Refusal) -> Failed {
         Failed::Refused(e)
     }
 }
 
 impl From<Reason> for Failed {
+    ghost from_gives = { λ e r. r ≡ Error e };
+
     fn from(e: Reason) -> Failed {
         Failed::Error(e)
     }
 }
 
 impl From<AllocError> for Failed {
+    ghost from_gives = { λ _ r. r ≡ Memory };
+
     fn from(_: AllocError) -> Failed {
         Failed::Memory
     }
 }
 
 impl From<fmt::Error> for Failed {
+    ghost from_gives = { λ _ r. r ≡ Memory };
+
     fn from(_: fmt::Error) -> Failed {
         Failed::Memory
     }

@@ -1,4 +1,4 @@
-ghost use Rattle.std.specs.Prelude.{Some};
+ghost use Rattle.std.specs.Prelude.{◌≡◌, Some};
 ghost use Rattle.months.specs.declared.state.Event.TheVariants.{Hold as HoldEvent, Release as ReleaseEvent, Close as CloseEvent};
 ghost use Rattle.book.specs.Views.{contents_of};
 ghost use Rattle.journal.specs.Calls.{offer, withdraw, turn};
@@ -114,7 +114,9 @@ impl Desk for OpenBook<'_, '_, '_> {
         Ok(self.sources.pair.measured.push(row)?)
     }
 
-    fn choose(&mut self, mode: Mode) {
+    fn choose(&mut self, mode: Mode)
+        ensures { self.new.sources.mode ≡ mode }
+    {
         self.sources.mode = mode;
     }
 

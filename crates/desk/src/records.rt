@@ -1,4 +1,4 @@
-ghost use Rattle.std.specs.Prelude.{◌≡◌};
+ghost use Rattle.std.specs.Prelude.{◌≡◌, if◌then◌else◌, nat_lt};
 ghost use Rattle.desk.specs.Done.{month_of};
 
 use crate::failed::Failed;
@@ -13,7 +13,9 @@ use std::alloc::Global;
 const ROOM: usize = 100;
 
 // A number that is none of a smaller type is none that a call knows: 0 is no year, day, kind, month or line.
-pub fn short(number: u32) -> u16 {
+pub fn short(number: u32) -> u16
+    ensures { result ≡ (if nat_lt number 65536 then number else 0) }
+{
     u16::try_from(number).unwrap_or(0)
 }
 
