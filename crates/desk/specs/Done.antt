@@ -8,17 +8,17 @@ use Rattle.journal.specs.Contents.{Contents, Step}
 use Rattle.commands.specs.declared.command.Command.{Command}
 use Rattle.commands.specs.declared.command.Command.TheVariants.{Open, Rows, Row, Source, Offer, Withdraw, Hold, Release, Close, Line, YearLine, Total, Statement, Print, Month, Record, Quantities, Name, Frame}
 
--- a month that is none of a byte is none, as 0 is
-abbrev pub month_of : ℕ → ℕ
-month_of n = cond (nat_lt n 256) n 0
+-- a month that no byte holds is none, as 0 is: so are a line and a kind
+abbrev pub byte_of : ℕ → ℕ
+byte_of n = cond (nat_lt n 256) n 0
 
 -- the call of the book that a command is, with the table that the source holds
 abbrev pub call_of : Table → Command → Option Call
 call_of t (Offer frame) = Some (offer frame.items t)
 call_of t (Withdraw number) = Some (withdraw number)
-call_of t (Hold month) = Some (turn (month_of month) HoldEvent)
-call_of t (Release month) = Some (turn (month_of month) ReleaseEvent)
-call_of t (Close month) = Some (turn (month_of month) CloseEvent)
+call_of t (Hold month) = Some (turn (byte_of month) HoldEvent)
+call_of t (Release month) = Some (turn (byte_of month) ReleaseEvent)
+call_of t (Close month) = Some (turn (byte_of month) CloseEvent)
 call_of t (Open year entries) = None
 call_of t (Rows n) = None
 call_of t (Row row) = None
@@ -33,6 +33,10 @@ call_of t (Record frame) = None
 call_of t (Quantities frame) = None
 call_of t (Name frame) = None
 call_of t (Frame stated) = None
+
+-- the command is no call of the book, whatever the source
+abbrev pub NoCall : Command → Type 0
+NoCall command = (t : Table) → call_of t command ≡ None
 
 -- the call was made of the book, or, where there is none, the book is as it was
 pub data Done (b b' : Contents) : Option Call → Type 0 where

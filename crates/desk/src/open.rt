@@ -3,7 +3,7 @@ ghost use Rattle.months.specs.declared.state.Event.TheVariants.{Hold as HoldEven
 ghost use Rattle.book.specs.Views.{contents_of};
 ghost use Rattle.journal.specs.Calls.{offer, withdraw, turn};
 ghost use Rattle.sources.specs.Sources.{table_of};
-ghost use Rattle.desk.specs.Done.{Done, call_of, month_of};
+ghost use Rattle.desk.specs.Done.{Done, call_of, byte_of};
 
 use crate::desk::Desk;
 use crate::failed::Failed;
@@ -53,21 +53,21 @@ impl OpenBook<'_, '_, '_> {
     }
 
     fn hold(&mut self, heap: Global, month: u32) -> Result<String, Failed>
-        ensures { Done (contents_of self.old.book.now) (contents_of self.new.book.now) (Some (turn (month_of month) HoldEvent)) }
+        ensures { Done (contents_of self.old.book.now) (contents_of self.new.book.now) (Some (turn (byte_of month) HoldEvent)) }
     {
         let month = self.book.hold(small(month)).map_err(Refusal::from)?;
         Ok(format!(in heap; "held {month}")?)
     }
 
     fn release(&mut self, heap: Global, month: u32) -> Result<String, Failed>
-        ensures { Done (contents_of self.old.book.now) (contents_of self.new.book.now) (Some (turn (month_of month) ReleaseEvent)) }
+        ensures { Done (contents_of self.old.book.now) (contents_of self.new.book.now) (Some (turn (byte_of month) ReleaseEvent)) }
     {
         let month = self.book.release(small(month)).map_err(Refusal::from)?;
         Ok(format!(in heap; "released {month}")?)
     }
 
     fn close(&mut self, heap: Global, month: u32) -> Result<String, Failed>
-        ensures { Done (contents_of self.old.book.now) (contents_of self.new.book.now) (Some (turn (month_of month) CloseEvent)) }
+        ensures { Done (contents_of self.old.book.now) (contents_of self.new.book.now) (Some (turn (byte_of month) CloseEvent)) }
     {
         let month = self.book.close(small(month)).map_err(Refusal::from)?;
         Ok(format!(in heap; "closed {month}")?)

@@ -1,5 +1,5 @@
-ghost use Rattle.std.specs.Prelude.{◌≡◌, if◌then◌else◌, nat_lt};
-ghost use Rattle.desk.specs.Done.{month_of};
+ghost use Rattle.std.specs.Prelude.{◌≡◌, IfOk, MatchResult, if◌then◌else◌, nat_lt};
+ghost use Rattle.desk.specs.Done.{byte_of, NoCall};
 
 use crate::failed::Failed;
 use calendar::{Day, Year};
@@ -20,13 +20,15 @@ pub fn short(number: u32) -> u16
 }
 
 pub fn small(number: u32) -> u8
-    ensures { result ≡ month_of number }
+    ensures { result ≡ byte_of number }
 {
     u8::try_from(number).unwrap_or(0)
 }
 
 // The answer to a command that asks nothing of a book, or the command back.
-pub fn without_book(heap: Global, command: Command) -> Result<Result<String, Command>, Failed> {
+pub fn without_book(heap: Global, command: Command) -> Result<Result<String, Command>, Failed>
+    ensures { IfOk result (λ r. MatchResult r (λ _. NoCall command) (λ other. other ≡ command)) }
+{
     match command {
         Command::Month { year, day } => Ok(Ok(month_of(heap, year, day)?)),
         Command::Record(frame) => Ok(Ok(record_of(heap, frame.as_slice())?)),
