@@ -5,5 +5,5 @@
 mod offering;
 mod taker;
 
-pub use frame_log::{Counts, year_and_frames};
+pub use frame_log::{Counts, frames_of, year_and_frames};
 pub use offering::offer_frames;

@@ -1,5 +1,5 @@
--- That what each source's table answers is within the limits: a law of the trait has its proof from here.
-use Rattle.std.proofs.Common.{◌≡◌, ℕ, zero, suc, ◌-◌, ◌<◌, ◌≤◌, Bool, true, false, cond, ◌&&◌, T, eqb, leb, nat_eq, List, [], ◌∷◌, length, get_or, option_map, Some, None, Option, sym, refl, ap, ◌∙◌, subst, inl, inr, le_of_suc-le-suc, not-suc-le-zero, arith, eqb→eq}
+-- That what each source's table answers is within the limits: the clause `limits` of asking and the law of `LimitedSource` are proved from here.
+use Rattle.std.proofs.Common.{◌≡◌, ℕ, zero, suc, ◌-◌, ◌<◌, ◌≤◌, Bool, true, false, cond, ◌&&◌, T, eqb, leb, nat_eq, List, [], ◌∷◌, length, get_or, option_map, IfSome, Some, None, Option, sym, refl, ap, ◌∙◌, subst, inl, inr, le_of_suc-le-suc, not-suc-le-zero, arith, eqb→eq}
 use Rattle.std.specs.List.{find}
 use Rattle.std.proofs.lemmas.Bool.{cases_Bool, and_parts, eqb-true, leb-true}
 use Rattle.std.proofs.lemmas.Option.{none-some}
@@ -17,6 +17,10 @@ Limited class o = (f : Factor) → o ≡ Some f → Within class f
 
 pub none_limited : (class : ℕ) → Limited class None
 none_limited class f e = absurd (none-some f e)
+
+pub answer_within : (class : ℕ) (o : Option Factor) → Limited class o → IfSome o (λ f. Within class f)
+answer_within class None h = tt
+answer_within class (Some f) h = h f refl
 
 either_limited : (class : ℕ) (b : Bool) (m d : Option Factor) → Limited class m → Limited class d → Limited class (cond b m d)
 either_limited class true m d v w = v

@@ -13,5 +13,5 @@ pub use fault::FactorFault;
 pub use plant::{PlantList, PlantRow};
 pub use printed::Printed;
 pub use question::{Class, Factor, Question};
-pub use source::{Nothing, Pair, Source};
+pub use source::{LimitedSource, Nothing, Pair, Source};
 pub use stands::factors_stand;

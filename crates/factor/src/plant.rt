@@ -7,7 +7,7 @@ ghost use Rattle.factor.specs.declared.fault.FactorFault.TheVariants.{ListFull};
 
 use crate::fault::FactorFault;
 use crate::question::{Factor, Question};
-use crate::source::Source;
+use crate::source::{LimitedSource, Source};
 use rows::Rows;
 
 // A factor of the plant's own, in numbers, since a host may state any: one that names no class, item or tier never answers.
@@ -93,9 +93,11 @@ impl<'m> PlantList<'m> {
 impl Source for PlantList<'_> {
     ghost table = { λ s q. first_fit q (held s.list.rows.now s.list.length) };
 
-    ghost limits = { λ s q. rows_limited (asked_of q) (held s.list.rows.now s.list.length) };
-
     fn ask(&mut self, question: Question) -> Option<Factor> {
         first_fit(self.list.as_slice(), question)
     }
+}
+
+impl LimitedSource for PlantList<'_> {
+    ghost limits = { λ s q. rows_limited (asked_of q) (held s.list.rows.now s.list.length) };
 }

@@ -6,7 +6,7 @@ ghost use Rattle.factor.specs.Limited.{printed_limited};
 ghost use Rattle.factor.specs.Questions.{asked_of};
 
 use crate::question::{Class, Factor, Question};
-use crate::source::Source;
+use crate::source::{LimitedSource, Source};
 use kind::{Fuel, Tier};
 
 // A fuel's heat value in thousandths of GJ per tonne (a gas: per 10^4 m3), its carbon in 10^-5 tC/GJ, and the percentage that oxidises.
@@ -76,12 +76,14 @@ pub struct Printed;
 impl Source for Printed {
     ghost table = { λ _ q. printed_answer q };
 
-    ghost limits = { λ _ q. printed_limited (asked_of q) };
-
     fn ask(&mut self, question: Question) -> Option<Factor> {
         match question.tier {
             Tier::Measured => None,
             Tier::Default => default_factor(question.class),
         }
     }
+}
+
+impl LimitedSource for Printed {
+    ghost limits = { λ _ q. printed_limited (asked_of q) };
 }

@@ -1,7 +1,8 @@
-ghost use Rattle.std.specs.Prelude.{◌≡◌, None, Option};
+ghost use Rattle.std.specs.Prelude.{◌≡◌, IfSome, None, Option};
 ghost use Rattle.factor.specs.declared.question.Factor.{Factor};
 ghost use Rattle.factor.specs.declared.question.Question.{Question};
 ghost use Rattle.factor.specs.Classes.{class_number};
+ghost use Rattle.factor.specs.Limits.{Within};
 ghost use Rattle.factor.specs.Questions.{Asked, asked_of, by_tier};
 ghost use Rattle.factor.specs.Limited.{Limited, none_limited, by_tier_limited};
 
@@ -14,10 +15,14 @@ pub trait Source {
 
     fn ask(&mut self, question: Question) -> Option<Factor>
         ensures answer { result ≡ table self.old (asked_of question) }
-        ensures same { table self.new ≡ table self.old };
+        ensures same { table self.new ≡ table self.old }
+        ensures limits { IfSome result (λ f. Within (asked_of question).class f) };
+}
 
+// Keeps the limits whatever numbers its fields hold, so that a caller need not ask; a law is over every number, so it is no part of `Source`.
+pub trait LimitedSource: Source {
     // What the table holds for a question is within the limits of its class.
-    ghost limits: { (s : Self) (q : Question) → Limited (class_number q.class) (table s (asked_of q)) };
+    ghost limits: { (s : Self) (q : Question) → Limited (class_number q.class) (Self.table s (asked_of q)) };
 }
 
 // A source that holds nothing.
@@ -27,11 +32,13 @@ pub struct Nothing;
 impl Source for Nothing {
     ghost table = { λ _ _. None };
 
-    ghost limits = { λ _ q. none_limited (class_number q.class) };
-
     fn ask(&mut self, question: Question) -> Option<Factor> {
         None
     }
+}
+
+impl LimitedSource for Nothing {
+    ghost limits = { λ _ q. none_limited (class_number q.class) };
 }
 
 // Two sources: one for each tier.
@@ -53,12 +60,14 @@ impl<M, D> Pair<M, D> {
 impl<M: Source, D: Source> Source for Pair<M, D> {
     ghost table = { λ s. by_tier (M.Source.table s.measured) (D.Source.table s.default) };
 
-    ghost limits = { λ s q. by_tier_limited (class_number q.class) (M.Source.table s.measured) (D.Source.table s.default) (asked_of q) (M.Source.limits s.measured q) (D.Source.limits s.default q) };
-
     fn ask(&mut self, question: Question) -> Option<Factor> {
         match question.tier {
             Tier::Measured => self.measured.ask(question),
             Tier::Default => self.default.ask(question),
         }
     }
+}
+
+impl<M: LimitedSource, D: LimitedSource> LimitedSource for Pair<M, D> {
+    ghost limits = { λ s q. by_tier_limited (class_number q.class) (M.Source.table s.measured) (D.Source.table s.default) (asked_of q) (M.LimitedSource.limits s.measured q) (D.LimitedSource.limits s.default q) };
 }

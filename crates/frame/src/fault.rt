@@ -1,7 +1,6 @@
 ghost use Rattle.std.specs.Prelude.{◌≡◌};
 ghost use Rattle.frame.specs.Faults.{refusal_of};
 
-use crate::tag::Tag;
 use refusal::{Layer, Refusal};
 
 // What is wrong with a frame or with a buffer for one; an offset is that of the field's first byte.
@@ -11,7 +10,7 @@ pub enum FrameFault {
     TagUnknown { offset: usize },
     TagNotRising { offset: usize },
     LengthWrong { offset: usize },
-    FieldMissing { tag: Tag },
+    FieldMissing { tag: u8 },
     BufferShort { needed: usize },
 }
 
@@ -24,7 +23,7 @@ impl From<FrameFault> for Refusal {
             FrameFault::TagUnknown { offset } => (Layer::Frame, 2, offset),
             FrameFault::TagNotRising { offset } => (Layer::Frame, 3, offset),
             FrameFault::LengthWrong { offset } => (Layer::Frame, 4, offset),
-            FrameFault::FieldMissing { tag } => (Layer::Frame, 5, tag as usize),
+            FrameFault::FieldMissing { tag } => (Layer::Frame, 5, usize::from(tag)),
             FrameFault::BufferShort { needed } => (Layer::Book, 20, needed),
         };
         Refusal {

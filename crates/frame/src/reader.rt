@@ -1,6 +1,8 @@
 ghost use Rattle.std.specs.Prelude.{◌≡◌};
 ghost use Rattle.refusal.specs.Said.{said};
 ghost use Rattle.frame.specs.Faults.{refusal_of};
+ghost use Rattle.frame.specs.Tags.{number_of};
+ghost use Rattle.frame.specs.declared.fault.FrameFault.TheVariants.{FieldMissing};
 ghost use Rattle.frame.specs.Reading as reading;
 ghost use Rattle.frame.specs.Reading.{put, frame_of, name_of};
 ghost use Rattle.frame.specs.Views.{tag_of, bytes_of, parts_of, bytes_at};
@@ -20,6 +22,13 @@ pub struct Seen<'f> {
     readings: Option<&'f [u8]>,
     share: Option<&'f [u8; 2]>,
     name: Option<&'f [u8]>,
+}
+
+// The fault that a frame has no field of this tag; it takes a `Tag`, though a host may put any number there.
+fn missing(tag: Tag) -> FrameFault
+    ensures { result ≡ FieldMissing (number_of tag) }
+{
+    FrameFault::FieldMissing { tag: tag.into() }
 }
 
 impl<'f> Seen<'f> {
@@ -53,11 +62,11 @@ impl<'f> Seen<'f> {
             name,
         } = self;
         Ok(Fields {
-            when: *when.ok_or(FrameFault::FieldMissing { tag: Tag::When })?,
-            kind: *kind.ok_or(FrameFault::FieldMissing { tag: Tag::Kind })?,
-            item: *item.ok_or(FrameFault::FieldMissing { tag: Tag::Item })?,
-            tier: *tier.ok_or(FrameFault::FieldMissing { tag: Tag::Tier })?,
-            readings: readings.ok_or(FrameFault::FieldMissing { tag: Tag::Readings })?,
+            when: *when.ok_or(missing(Tag::When))?,
+            kind: *kind.ok_or(missing(Tag::Kind))?,
+            item: *item.ok_or(missing(Tag::Item))?,
+            tier: *tier.ok_or(missing(Tag::Tier))?,
+            readings: readings.ok_or(missing(Tag::Readings))?,
             share: share.copied(),
             name: name.unwrap_or(&[]),
         })

@@ -30,6 +30,21 @@ fn split_frame(log: &[u8]) -> Option<(&[u8], &[u8])>
     rest.split_at_checked(usize::from(u16::from_be_bytes([*high, *low])))
 }
 
+// A frame of the log, and what follows it.
+#[derive(Clone, Copy)]
+pub struct Next<'l> {
+    pub frame: &'l [u8],
+    pub rest: &'l [u8],
+}
+
+// The first frame, unless the log has ended or is cut off; a copy of what follows it can be kept, as of `Frames` none can.
+pub fn next_frame(log: &[u8]) -> Option<Next<'_>>
+    ensures { MatchOption result (Ended log.now) (λ n. (framed n.frame.now ++ n.rest.now ≡ log.now) × (length n.frame.now < 65536)) }
+{
+    let (frame, rest) = split_frame(log)?;
+    Some(Next { frame, rest })
+}
+
 impl<'l> Iterator for Frames<'l> {
     type Item = Result<&'l [u8], CutOff>;
 

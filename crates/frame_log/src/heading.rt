@@ -11,3 +11,13 @@ pub fn year_and_frames(log: &[u8]) -> Option<(Year, &[u8])>
     let year = Year::try_from(u16::from_be_bytes(*year)).ok()?;
     Some((year, frames))
 }
+
+// The bytes behind the year of a log, lawful or not.
+pub fn frames_of(log: &[u8]) -> &[u8]
+    ensures { result.now ≡ drop 2 log.now }
+{
+    match log {
+        [_, _, frames @ ..] => frames,
+        _ => &[],
+    }
+}

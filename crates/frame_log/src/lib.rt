@@ -11,11 +11,19 @@ ghost use Rattle.std.specs.Prelude.{◌≡◌, MatchOption};
 ghost use Rattle.frame_log.specs.Log.{taken_by, Counted};
 
 use calendar::Year;
-pub use frames::{CutOff, Frames};
-pub use heading::year_and_frames;
+pub use frames::{CutOff, Frames, Next, next_frame};
+pub use heading::{frames_of, year_and_frames};
 pub use laws::logs_stand;
 use record::read;
 pub use walk::{Counts, Taker, tally};
+
+// What a log comes to.
+#[derive(Clone, Copy, PartialEq, Eq, Debug)]
+pub struct LogCounts {
+    pub year: u16,
+    pub taken: usize,
+    pub refused: usize,
+}
 
 // Takes the frames that read as lawful records of a year.
 #[derive(Drop)]
@@ -33,12 +41,30 @@ impl Taker for OfYear {
 }
 
 // The year of a log, and how many of its frames are taken and how many refused; none without a lawful year.
-pub fn count(log: &[u8]) -> Option<(Year, Counts)>
+pub fn year_and_counts(log: &[u8]) -> Option<(Year, Counts)>
     ensures { MatchOption result (Counted log.now 0 0 0) (λ c. Counted log.now c.0.number c.1.taken c.1.refused) }
 {
     let (year, frames) = year_and_frames(log)?;
     let counts = tally(frames, &mut OfYear { year });
     Some((year, counts))
+}
+
+// The same in numbers, for every log: without a lawful year all three are 0.
+pub fn count(log: &[u8]) -> LogCounts
+    ensures { Counted log.now result.year result.taken result.refused }
+{
+    let Some((year, counts)) = year_and_counts(log) else {
+        return LogCounts {
+            year: 0,
+            taken: 0,
+            refused: 0,
+        };
+    };
+    LogCounts {
+        year: year.number(),
+        taken: counts.taken,
+        refused: counts.refused,
+    }
 }
 
 #[cfg(test)]
@@ -52,9 +78,8 @@ mod tests {
     ];
 
     fn is_counted(log: &[u8], year: u16, taken: usize, refused: usize) -> bool {
-        let none = (0, 0, 0);
-        let found = count(log).map_or(none, |(y, c)| (y.number(), c.taken, c.refused));
-        found == (year, taken, refused)
+        let counts = count(log);
+        counts.year == year && counts.taken == taken && counts.refused == refused
     }
 
     #[test]

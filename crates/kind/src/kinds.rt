@@ -9,9 +9,9 @@ pub struct Fuel {
 
 #[derive(Clone, Copy, PartialEq, Eq, Debug)]
 pub enum Carbonate {
-    Calcium = 1,
-    SodiumBicarbonate = 2,
-    Other = 3,
+    Calcium,
+    SodiumBicarbonate,
+    Other,
 }
 
 // How heat is measured.

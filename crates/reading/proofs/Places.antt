@@ -20,19 +20,18 @@ pub all_at : (bs : List ℕ) (chunks : List (List ℕ)) (xs : List Float) (n : �
 all_at bs chunks xs n front long count each k h =
     each k h ∙ ap decode (ap (λ (z : List (List ℕ)). get_or z k []) front ∙ chunk_at (length bs / 4) k bs (omega arith))
 
+pub wrong_length : (shape : Shape) (bs : List ℕ) → length bs ≢ 4 * count shape → None ≡ set_in shape bs
+unfolding set_in
+wrong_length shape bs h = ap (λ (b : Bool). cond b (Some (set_of shape bs)) None) (sym (ne_eqb (length bs) (4 * count shape) h))
+
 -- as many chunks of four as the shape has readings, and nothing after them, or not
 module _ (shape other : Shape) (bs : List ℕ) (chunks rest : ℕ) (is : shape ≡ other) (front : chunks ≡ length bs / 4) (back : rest ≡ length bs % 4) where
   unequal : chunks ≢ count other → length bs ≢ 4 * count shape
   unequal h e = h (omega (arith, ap count is))
 
   pub wrong_count : chunks ≢ count other → None ≡ set_in shape bs
-  unfolding set_in
-  wrong_count h = ap (λ (b : Bool). cond b (Some (set_of shape bs)) None) (sym (ne_eqb (length bs) (4 * count shape) (unequal h)))
+  wrong_count h = wrong_length shape bs (unequal h)
 
   pub right_count : rest ≡ 0 → chunks ≡ count other → Some (set_of other bs) ≡ set_in shape bs
   unfolding set_in
   right_count r e = ap (λ (s : Shape). Some (set_of s bs)) (sym is) ∙ ap (λ (b : Bool). cond b (Some (set_of shape bs)) None) (sym (eq-eqb (length bs) (4 * count shape) (omega (arith, ap count is))))
-
-pub wrong_rest : (shape : Shape) (bs : List ℕ) → length bs % 4 ≢ 0 → None ≡ set_in shape bs
-unfolding set_in
-wrong_rest shape bs h = ap (λ (b : Bool). cond b (Some (set_of shape bs)) None) (sym (ne_eqb (length bs) (4 * count shape) (λ e. h (omega arith))))

@@ -5,4 +5,5 @@ pub mod Refusals
 pub mod Limited
 pub mod Quantity
 pub mod Layout
+pub mod Content
 pub mod Laws

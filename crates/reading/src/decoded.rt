@@ -37,9 +37,10 @@ impl ReadingSet {
         ensures value { result ≡ set_in shape bytes.now }
         ensures back { IfSome result (λ set. T (lawful_set set) → set_bytes set ≡ bytes.now) }
     {
-        let (readings, []) = bytes.as_chunks::<4>() else {
+        if bytes.len() != shape.size() {
             return None;
-        };
+        }
+        let (readings, _) = bytes.as_chunks::<4>();
         let set = match shape {
             Shape::Amount => {
                 let [x] = readings.as_array::<1>()?.map(from_bytes);

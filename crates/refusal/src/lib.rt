@@ -1,7 +1,7 @@
 // What every refusal of the ledger says: which layer refuses, by which number, and where.
 #![tactic(auto)]
 
-ghost use Rattle.std.specs.Prelude.{Some};
+ghost use Rattle.std.specs.Prelude.{◌≡◌, Some, codes};
 ghost use Rattle.refusal.specs.Words.{word, refusal_text};
 
 use std::fmt;
@@ -15,16 +15,25 @@ pub enum Layer {
     Book,
 }
 
-impl fmt::Display for Layer {
-    ghost output = { λ layer. Some (word layer) };
-
-    fn fmt<W: fmt::Write>(&self, f: &mut fmt::Formatter<W>) -> fmt::Result {
-        f.write_str(match self {
+impl Layer {
+    // The layer's name as programs print it.
+    pub fn word(self) -> &'static str
+        ensures { result.now ≡ word self }
+    {
+        match self {
             Layer::Frame => "frame",
             Layer::Record => "record",
             Layer::Factor => "factor",
             Layer::Book => "book",
-        })
+        }
+    }
+}
+
+impl fmt::Display for Layer {
+    ghost output = { λ layer. Some (word layer) };
+
+    fn fmt<W: fmt::Write>(&self, f: &mut fmt::Formatter<W>) -> fmt::Result {
+        f.write_str(self.word())
     }
 }
 

@@ -2,7 +2,7 @@ ghost use Rattle.std.specs.Prelude.{◌≡◌};
 ghost use Rattle.factor.specs.Questions.{asked_of};
 ghost use Rattle.sources.specs.Sources.{mode_of, table_of, table_limited};
 
-use factor::{Factor, Pair, PlantList, Printed, Question, Source};
+use factor::{Factor, LimitedSource, Pair, PlantList, Printed, Question, Source};
 
 // Which source answers: the plant's list, the printed table, both by tier, or none.
 #[derive(Clone, Copy, PartialEq, Eq, Debug)]
@@ -36,8 +36,6 @@ pub struct Sources<'m> {
 impl Source for Sources<'_> {
     ghost table = { table_of };
 
-    ghost limits = { λ s q. table_limited s (asked_of q) };
-
     fn ask(&mut self, question: Question) -> Option<Factor> {
         // A match and no dyn source: the table has to say which is asked.
         match self.mode {
@@ -47,4 +45,8 @@ impl Source for Sources<'_> {
             Mode::Neither => None,
         }
     }
+}
+
+impl LimitedSource for Sources<'_> {
+    ghost limits = { λ s q. table_limited s (asked_of q) };
 }

@@ -49,7 +49,7 @@ impl From<Carbonate> for u8 {
     ghost from_gives = { λ carbonate n. n ≡ carbonate_item carbonate };
 
     fn from(carbonate: Carbonate) -> u8 {
-        carbonate as u8
+        carbonate as u8 + 1
     }
 }
 

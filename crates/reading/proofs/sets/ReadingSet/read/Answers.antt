@@ -1,13 +1,13 @@
-use Rattle.std.proofs.Common.{rules, ◌≡◌, ◌∙◌, length, [], Some, arith, lit<}
+use Rattle.std.proofs.Common.{rules, ◌≡◌, sym, ◌∙◌, length, [], Some, arith, lit<}
 use lib.Ieee.{nan}
 use Rattle.reading.specs.declared.sets.Shape.TheVariants.{Amount as AmountShape, Water as WaterShape, Steam as SteamShape, Wastewater as WastewaterShape}
 use Rattle.reading.specs.declared.sets.ReadingSet.TheVariants.{Amount, Water, Steam, Wastewater}
-use Rattle.reading.proofs.Places.{all_at, wrong_rest, wrong_count, right_count}
+use Rattle.reading.proofs.Places.{all_at, wrong_length, wrong_count, right_count}
 use Rattle.reading.proofs.Joined.{was_read}
 use Rattle.reading.proofs.sets.ReadingSet.read.Goals as goal
 
-pub returns-in_default-clause-value : goal.returns-in_default-clause-value
-returns-in_default-clause-value c = wrong_rest c.args.shape c.args.bytes.now (λ e. omega (arith, c.as_chunks.ensures.back_len))
+pub returns-then-bytes-size-clause-value : goal.returns-then-bytes-size-clause-value
+returns-then-bytes-size-clause-value c = wrong_length c.args.shape c.args.bytes.now (λ e. c.if-bytes-size.true (e ∙ sym c.size.ensures))
 
 pub returns-in_err-as_array-in-Amount-clause-value : goal.returns-in_err-as_array-in-Amount-clause-value
 returns-in_err-as_array-in-Amount-clause-value c =

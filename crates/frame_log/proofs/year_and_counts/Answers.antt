@@ -1,5 +1,5 @@
 use Rattle.frame_log.proofs.Counting.{counted_in, lawful_log}
-use Rattle.frame_log.proofs.count.Goals as goal
+use Rattle.frame_log.proofs.year_and_counts.Goals as goal
 
 pub returns : goal.returns
 returns c =
